@@ -1,0 +1,5 @@
+pub mod Columns
+pub mod Families
+pub mod Places
+pub mod Allowed
+pub mod Factory
