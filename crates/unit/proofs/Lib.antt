@@ -1,0 +1,4 @@
+pub mod ReplyFacts
+pub mod GetFacts
+pub mod RequestFacts
+pub mod StartFacts

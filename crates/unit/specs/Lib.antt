@@ -1,0 +1,6 @@
+pub mod Refusals
+pub mod Operations
+pub mod Replies
+pub mod Items
+pub mod Gets
+pub mod Steps
