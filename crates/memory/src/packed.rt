@@ -17,7 +17,7 @@ use super::top_of;
 
 // The octet at which the cell `at` begins: one for each cell below it, and one more for each wide one, of which each of
 // the 16 phase rows and each of the 64 detector rows has one.
-pub fn octet_of(at: usize) -> usize
+fn octet_of(at: usize) -> usize
     requires { ⌜ at < cellCount ⌝ }
     ensures { λ r. ⌜ r ≡ octetOf at ⌝ }
 {

@@ -20,7 +20,7 @@ use Rattle.tables.specs.Places.{Stands, cellOf, rowsBefore}
 use Rattle.tables.specs.Allowed.{allows, holds, lengthPlace, AllowedAt}
 use Rattle.tables.specs.Factory.{factoryIn, factoryCell, factory}
 use Rattle.tables.proofs.Each.{each}
-use Rattle.tables.proofs.PlaceFacts.{cell-is, cell-least, cell-last, cell-below, in-row, last-list}
+use Rattle.tables.proofs.PlaceFacts.{cell-is, cell-least, cell-last, cell-below, in-row, same-test, column-at, column-within, place}
 
 low : (n : ℕ) → n < 608 → factoryCell n ≡ cond (eqb (n % 38) 18) 1 0
 low n h = simp (lt-ltb n 608 h)
@@ -34,28 +34,7 @@ splits n l h = simp (le-ltb n 608 (omega arith), le-ltb n 1408 l, lt-ltb n 2176 
 high : (n : ℕ) → 2176 ≤ n → factoryCell n ≡ 0
 high n l = simp (le-ltb n 608 (omega arith), le-ltb n 1408 (omega arith), le-ltb n 2176 l)
 
-same-test : (a b c d : ℕ) → (a ≡ b → c ≡ d) → (c ≡ d → a ≡ b) → eqb a b ≡ eqb c d
-same-test a b c d there back =
-    elim (cases-eq a b) [
-      | inl e ↦ eq-eqb a b e ∙ sym (eq-eqb c d (there e))
-      | inr n ↦ ne-eqb a b n ∙ sym (ne-eqb c d (λ e. n (back e)))
-    ]
-
--- in a row, a column before the last is told by its place
-column-at : (p : Place) → Stands p → (c : ℕ) → 1 ≤ c → c < shapeOf (p .family) .columns → eqb ((p .column - 1) + p .octet) (c - 1) ≡ eqb (p .column) c
-column-at p s c l h =
-    let least = s .column-least in
-    let within = s .octet-within in
-    elim (last-list (p .family) (p .column) (s .column-least) (s .column-last)) [
-      | inl one ↦ same-test _ _ _ _ (λ e. omega (arith, one)) (λ e. omega (arith, one))
-      | inr last ↦ same-test _ _ _ _ (λ e. omega (arith, last .0)) (λ e. omega (arith, last .0))
-    ]
-
-place : FamilyId → ℕ → ℕ → ℕ → ℕ → Place
-place f x y c o = record { family = f; first = x; second = y; column = c; octet = o }
-
 by-family : (f : FamilyId) (x y c o : ℕ) → Stands (place f x y c o) → factoryCell (cellOf (place f x y c o)) ≡ factoryIn f c
-unfolding place
 by-family Phase x y c o s =
     let p = place Phase x y c o in
     let m : cellOf p % 38 ≡ (c - 1) + o = ap (λ n. n % 38) (cell-is p ∙ omega arith) ∙ mod-mul-add (rowsBefore p) 38 ((c - 1) + o) (in-row p s) in
@@ -71,7 +50,7 @@ by-family Action x y c o s = high (cellOf (place Action x y c o)) (cell-least (p
 by-family Sequence x y c o s = high (cellOf (place Sequence x y c o)) (omega (arith, cell-least (place Sequence x y c o)))
 
 pub factory-at : (p : Place) → Stands p → getD factory (cellOf p) 0 ≡ factoryIn (p .family) (p .column)
-unfolding factory place
+unfolding factory
 factory-at p s =
     getD-listBy factoryCell 2544 (cellOf p) (cell-below p s) ∙ by-family (p .family) (p .first) (p .second) (p .column) (p .octet) s
 
@@ -100,15 +79,6 @@ fits i c = cond (isList (c .kind)) (eqb (cond (eqb i 18) 1 (cond (eqb i 41) 2 0)
 from-T : (b : Bool) → T b → b ≡ true
 from-T true t = refl
 from-T false t = absurd t
-
-column-within : (f : FamilyId) (c : ℕ) → 1 ≤ c → c ≤ shapeOf f .columns → shapeOf f .«columns_before» + (c - 1) < 47
-column-within Phase c l h = omega arith
-column-within VehicleDetector c l h = omega arith
-column-within PedestrianDetector c l h = omega arith
-column-within Pattern c l h = omega arith
-column-within Split c l h = omega arith
-column-within Action c l h = omega arith
-column-within Sequence c l h = omega arith
 
 column-fits : (f : FamilyId) (c : ℕ) → 1 ≤ c → c ≤ shapeOf f .columns → cond (isList (columnOf f c .kind)) (eqb (factoryIn f c) 0) (allows (columnOf f c) (factoryIn f c)) ≡ true
 unfolding byIndex

@@ -1,3 +1,4 @@
 pub mod Each
 pub mod PlaceFacts
 pub mod FactoryFacts
+pub mod WidthFacts

@@ -13,10 +13,11 @@ use Rattle.tables.specs.declared.family.FamilyId.the-variants.{Phase, VehicleD
 use Rattle.tables.specs.declared.place.Place.{Place}
 use Rattle.tables.specs.declared.family.Shape.{Shape}
 use Rattle.tables.specs.Columns.{columns, none}
-use Rattle.tables.specs.Families.{shapeOf, columnOf, cellsOf, rowsOf, cellsEnd}
-use Rattle.tables.specs.Places.{Stands, cellOf, rowsBefore}
+use Rattle.tables.specs.Families.{shapeOf, columnOf, cellsOf, isList, rowsOf, cellsEnd}
+use Rattle.tables.specs.declared.address.Address.{Address}
+use Rattle.tables.specs.Places.{Stands, cellOf, rowsBefore, Names, NamesCell}
 use Rattle.std.proofs.shelf.Bits.{mul-add-lt, div-mul-add, mod-mul-add, div-below, mod-below, div-add-mod'}
-use Rattle.std.proofs.shelf.Tests.{lt-ltb, le-ltb}
+use Rattle.std.proofs.shelf.Tests.{lt-ltb, le-ltb, eq-eqb, ne-eqb, cases-eq}
 use Rattle.tables.proofs.Each.{each}
 
 or-T : (a b : Bool) → T (a || b) → T a ⊎ T b
@@ -226,3 +227,74 @@ cell-made p s n e l r a =
     let a2 : (p .column - 1) + p .octet ≡ (n - b) % w = a ∙ ap (λ (x : Shape). (n - x .«cells_before») % x .«row_cells») e in
     let m : rowsBefore p * w ≡ (n - b) / w * w = ap (λ x. x * w) r2 in
     omega (arith, cell-is p, div-add-mod' (n - b) w)
+
+-- a family is known by its data ID
+byId : ℕ → FamilyId
+byId n =
+    cond (eqb n 0) Phase
+    (cond (eqb n 1) VehicleDetector
+    (cond (eqb n 2) PedestrianDetector
+    (cond (eqb n 3) Pattern
+    (cond (eqb n 4) Split
+    (cond (eqb n 5) Action Sequence)))))
+
+by-id : (f : FamilyId) → byId (shapeOf f .id) ≡ f
+unfolding byId
+by-id Phase = refl
+by-id VehicleDetector = refl
+by-id PedestrianDetector = refl
+by-id Pattern = refl
+by-id Split = refl
+by-id Action = refl
+by-id Sequence = refl
+
+names-one-place : (a : Address) (p q : Place) → Names a p → Names a q → p ≡ q
+names-one-place a p q x y =
+    place-same p q
+    (sym (by-id (p .family)) ∙ (ap byId (x .id ∙ sym (y .id)) ∙ by-id (q .family)))
+    (x .first ∙ sym (y .first))
+    (x .second ∙ sym (y .second))
+    (x .column ∙ sym (y .column))
+    (x .octet ∙ sym (y .octet))
+
+pub one-cell-named : (a : Address) (n m : ℕ) → NamesCell a n → NamesCell a m → n ≡ m
+one-cell-named a n m x y = sym (x .2) ∙ (ap cellOf (names-one-place a (x .0) (y .0) (x .1) (y .1)) ∙ y .2)
+
+pub number-named : (p : Place) → Stands p → isList (columnOf (p .family) (p .column) .kind) ≡ false → (a : Address) × NamesCell a (cellOf p)
+number-named p s n =
+    let one : cellsOf (columnOf (p .family) (p .column)) ≡ 1 = ap (λ b. cond b 17 1) n in (
+      record { id = shapeOf (p .family) .id; column = p .column; first = p .first; second = p .second },
+      (p, record { stands = s; id = refl; column = refl; first = refl; second = refl; octet = omega (arith, s .octet-within); number = n }, refl),
+    )
+
+-- two tests that go together
+pub same-test : (a b c d : ℕ) → (a ≡ b → c ≡ d) → (c ≡ d → a ≡ b) → eqb a b ≡ eqb c d
+same-test a b c d there back =
+    elim (cases-eq a b) [
+      | inl e ↦ eq-eqb a b e ∙ sym (eq-eqb c d (there e))
+      | inr n ↦ ne-eqb a b n ∙ sym (ne-eqb c d (λ e. n (back e)))
+    ]
+
+-- in a row, a column before the last is told by its place
+pub column-at : (p : Place) → Stands p → (c : ℕ) → 1 ≤ c → c < shapeOf (p .family) .columns → eqb ((p .column - 1) + p .octet) (c - 1) ≡ eqb (p .column) c
+column-at p s c l h =
+    let least = s .column-least in
+    let within = s .octet-within in
+    elim (last-list (p .family) (p .column) (s .column-least) (s .column-last)) [
+      | inl one ↦ same-test _ _ _ _ (λ e. omega (arith, one)) (λ e. omega (arith, one))
+      | inr last ↦ same-test _ _ _ _ (λ e. omega (arith, last .0)) (λ e. omega (arith, last .0))
+    ]
+
+-- a place by its parts
+abbrev pub place : FamilyId → ℕ → ℕ → ℕ → ℕ → Place
+place f x y c o = record { family = f; first = x; second = y; column = c; octet = o }
+
+-- a family's columns are among all
+pub column-within : (f : FamilyId) (c : ℕ) → 1 ≤ c → c ≤ shapeOf f .columns → shapeOf f .«columns_before» + (c - 1) < 47
+column-within Phase c l h = omega arith
+column-within VehicleDetector c l h = omega arith
+column-within PedestrianDetector c l h = omega arith
+column-within Pattern c l h = omega arith
+column-within Split c l h = omega arith
+column-within Action c l h = omega arith
+column-within Sequence c l h = omega arith

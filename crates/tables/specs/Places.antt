@@ -1,8 +1,9 @@
 -- Where a value stands, and the number of its cell.
 use Prim.Native.Nat.{ℕ, _+_, _-_, _*_, _<_, _≤_, min}
 use mathlib.Core.Path.{_≡_}
-use mathlib.Core.Bool.{false}
-use Rattle.memory.specs.Top.{cellCount}
+use mathlib.Core.Bool.{false, cond}
+use lib.Dec.{eqb}
+use Rattle.memory.specs.Top.{cellCount, topOf}
 use Rattle.tables.specs.declared.place.Place.{Place}
 use Rattle.tables.specs.declared.address.Address.{Address}
 use Rattle.tables.specs.Families.{shapeOf, columnOf, cellsOf, isList}
@@ -42,3 +43,15 @@ pub record Names (a : Address) (p : Place) : Type 0 where
 -- the address names a number, and this is the number's cell
 abbrev pub NamesCell : Address → ℕ → Type 0
 NamesCell a n = (p : Place) × Names a p × (cellOf p ≡ n)
+
+-- an address names at most one cell
+abbrev pub OneCell : Type 0
+OneCell = (a : Address) (n m : ℕ) → NamesCell a n → NamesCell a m → n ≡ m
+
+-- every number of the table has an address
+abbrev pub EveryNumberNamed : Type 0
+EveryNumberNamed = (p : Place) → Stands p → isList (columnOf (p .family) (p .column) .kind) ≡ false → (a : Address) × NamesCell a (cellOf p)
+
+-- a cell of a two-octet column is wide, and no other
+abbrev pub TopsFollowWidths : Type 0
+TopsFollowWidths = (p : Place) → Stands p → topOf (cellOf p) ≡ cond (eqb (columnOf (p .family) (p .column) .width) 2) 65535 255

@@ -2,7 +2,7 @@ ghost use mathlib.Core.Path.{_≡_};
 ghost use Prim.Native.Nat.{ℕ, _<_};
 ghost use Rattle.std.specs.Options.{Cases as BySome};
 ghost use Rattle.memory.specs.Top.{cellCount};
-ghost use Rattle.tables.specs.Places.{NamesCell};
+ghost use Rattle.tables.specs.Places.{NamesCell, OneCell, EveryNumberNamed};
 use super::family::FamilyId;
 use super::place::Place;
 
@@ -34,4 +34,18 @@ impl Address {
         };
         place.cell()
     }
+}
+
+// An address names at most one cell.
+pub fn each_address_names_one_cell() -> u8
+    ensures { λ _. ⌜ OneCell ⌝ }
+{
+    0
+}
+
+// Every number of the table can be named.
+pub fn every_number_has_an_address() -> u8
+    ensures { λ _. ⌜ EveryNumberNamed ⌝ }
+{
+    0
 }

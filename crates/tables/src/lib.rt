@@ -5,4 +5,6 @@ pub mod columns;
 pub mod factory;
 pub mod family;
 pub mod place;
+#[cfg(test)]
+mod tests;
 pub mod work;

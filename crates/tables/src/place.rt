@@ -5,7 +5,7 @@ ghost use Rattle.std.specs.Options.{Cases as BySome};
 ghost use Rattle.std.specs.Orderings.{Decides};
 ghost use Rattle.memory.specs.Top.{cellCount};
 ghost use Rattle.tables.specs.Families.{shapeOf, columnOf, cellsOf, rowsOf, cellsEnd};
-ghost use Rattle.tables.specs.Places.{Stands, cellOf, OnePlace};
+ghost use Rattle.tables.specs.Places.{Stands, cellOf, OnePlace, TopsFollowWidths};
 use super::columns::COLUMNS;
 use super::columns::Column;
 use super::columns::Kind;
@@ -184,6 +184,13 @@ pub fn place_of(cell: usize) -> Option<Place>
 // No two places have the same cell.
 pub fn each_cell_has_one_place() -> u8
     ensures { λ _. ⌜ OnePlace ⌝ }
+{
+    0
+}
+
+// The memories' tops are those of the columns' widths.
+pub fn tops_follow_widths() -> u8
+    ensures { λ _. ⌜ TopsFollowWidths ⌝ }
 {
     0
 }

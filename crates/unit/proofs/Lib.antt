@@ -2,3 +2,4 @@ pub mod ReplyFacts
 pub mod GetFacts
 pub mod RequestFacts
 pub mod StartFacts
+pub mod OneOutcome

@@ -90,3 +90,9 @@ pub record Requested (s : Moment) (l : Lent) (octets before : List ℕ) (a : Ans
   pub length : a .length ≡ length (replyOf outcome)
   pub memory : after ≡ memoryAfter outcome before
   pub mode : a .mode ≡ t .mode
+
+-- what a request returns, and what it leaves in reply memory and in the unit, is told by what it is handed alone
+abbrev pub OneOutcome : Type 0
+OneOutcome =
+    (s : Moment) (l : Lent) (octets before : List ℕ) (a b : Answer) (x y : List ℕ) (t u : Moment)
+    → Requested s l octets before a x t → Requested s l octets before b y u → (a ≡ b) × (x ≡ y) × (t ≡ u)

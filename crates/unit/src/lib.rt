@@ -7,3 +7,5 @@ pub mod refusal;
 mod reply;
 pub mod request;
 pub mod start;
+#[cfg(test)]
+mod tests;

@@ -8,7 +8,7 @@ ghost use mathlib.Core.Bool.{false};
 ghost use Rattle.unit.specs.Refusals.{numberOf, refusalOctets, unanswered};
 ghost use Rattle.unit.specs.Replies.{Wrote, replyRoom, padded};
 ghost use Rattle.unit.specs.Gets.{accepted, refused};
-ghost use Rattle.unit.specs.Steps.{Answered, Requested, moment, lent};
+ghost use Rattle.unit.specs.Steps.{Answered, OneOutcome, Requested, lent, moment};
 use super::answer::Answer;
 use super::get::get;
 use super::operation::Operation;
@@ -129,4 +129,11 @@ pub fn request<R: ParameterMemory, D: ParameterMemory>(
         }
         Err(refusal) => refuse(mode, reply, refusal),
     }
+}
+
+// What a request returns and leaves is told by what it is handed alone.
+pub fn a_request_has_one_outcome() -> u8
+    ensures { λ _. ⌜ OneOutcome ⌝ }
+{
+    0
 }
