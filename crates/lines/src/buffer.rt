@@ -4,7 +4,7 @@ ghost use Prim.Native.Nat.{ℕ, _≤_};
 ghost use lib.Dec.{eqb};
 ghost use lib.ListN.{length, take, drop};
 ghost use Rattle.std.specs.Options.{Cases};
-ghost use Rattle.lines.specs.Spelling.{spelled, longestLine, Legible, Holds};
+ghost use Rattle.lines.specs.Spelling.{spelled, longestLine, lineRoom, Legible, Holds};
 use crate::LONGEST_LINE;
 use crate::octets_of_line;
 
@@ -49,6 +49,14 @@ impl LineBuffer {
         ensures { λ r. ⌜ ((line : List ℕ) → Holds (now (self .entry) .bytes) (now (self .entry) .len) line → r ≡ eqb (length line) 0) ⌝ }
     {
         self.len == 0
+    }
+
+    // The line's bytes, but of a line that is too long only the front.
+    pub fn text(&self) -> &[u8]
+        ensures { λ r. ⌜ ((line : List ℕ) → Holds (now (self .entry) .bytes) (now (self .entry) .len) line → now r ≡ take lineRoom line) ⌝ }
+    {
+        let bytes = &self.bytes;
+        &bytes[0..self.len]
     }
 
     // What `octets_of_line` says of the whole line.
