@@ -11,6 +11,7 @@ ghost use Rattle.account.specs.Pages.{Printed, Plain, bracketed};
 use lines::spell;
 use std::alloc::AllocError;
 use std::alloc::Global;
+use std::fmt;
 
 // How many bytes of a line of pairs, three to a pair, stand in one line of the page.
 const WIDTH: usize = 96;
@@ -71,19 +72,27 @@ pub fn laid_out(heap: Global, line: &[u8]) -> Result<String, AllocError>
 }
 
 // How many numbers, and which.
-pub fn numbers_in_words(heap: Global, numbers: &[u16]) -> Result<String, AllocError> {
-    let count = numbers.len();
-    let mut text = if count == 1 {
-        String::from_str(heap, "1 number:")?
-    } else {
-        format!(heap, "{count} numbers:")?
-    };
-    for (i, number) in numbers.iter().enumerate() {
-        if i > 0 && i % NUMBERS == 0 {
-            text.push_str(FURTHER)?;
+#[derive(Drop)]
+pub struct NumberList<'a> {
+    pub numbers: &'a [u16],
+}
+
+pub impl fmt::Display for NumberList<'_> as NumberListDisplay {
+    fn fmt<W: fmt::Write>(&self, f: &mut fmt::Formatter<W>) -> fmt::Result {
+        let count = self.numbers.len();
+        if count == 1 {
+            f.write_str("1 number:")?;
+        } else {
+            write!(f, "{count} numbers:")?;
         }
-        let shown = format!(heap, " {number}")?;
-        text.push_str(shown.as_str())?;
+        for (i, number) in self.numbers.iter().enumerate() {
+            let gap = if i > 0 && i % NUMBERS == 0 {
+                FURTHER
+            } else {
+                " "
+            };
+            write!(f, "{gap}{number}")?;
+        }
+        Ok(())
     }
-    Ok(text)
 }

@@ -14,8 +14,9 @@ use std::io::Read;
 
 mod layout;
 
+use layout::NumberList;
+use layout::NumberListDisplay;
 use layout::laid_out;
-use layout::numbers_in_words;
 
 fn tell_fault(rt: &LibcRuntime, fault: Fault) -> io::Result<()> {
     let Fault {
@@ -39,8 +40,10 @@ fn tell_reply(rt: &LibcRuntime, reply: &[u8]) -> io::Result<()> {
     println!(rt, "  < {shown}")?;
     match read(rt.alloc(), reply)? {
         Reading::Numbers(numbers) => {
-            let words = numbers_in_words(rt.alloc(), numbers.as_slice())?;
-            println!(rt, "  answered: {words}\n")
+            let list = NumberList {
+                numbers: numbers.as_slice(),
+            };
+            println!(rt, "  answered: {list}\n")
         }
         Reading::Refused(fault) => tell_fault(rt, fault),
         Reading::Unclear => println!(rt, "  no reply of a unit\n"),

@@ -1,10 +1,11 @@
 // A unit with memories of its own, as a program holds it.
 ghost use mathlib.Core.Path.{_≡_};
-ghost use Prim.Native.Nat.{ℕ, _≤_};
-ghost use lib.ListN.{length, take};
+ghost use Prim.Native.Nat.{_≤_};
+ghost use lib.ListN.{take};
 ghost use Rattle.memory.specs.Held.{wordCells};
 ghost use Rattle.tables.specs.Factory.{factory};
-ghost use Rattle.unit.specs.Steps.{Requested, moment, lent};
+ghost use Rattle.unit.specs.Steps.{moment};
+ghost use Rattle.bench_unit.specs.Asks.{Asked};
 use memory::CELLS;
 use memory::WordMemory;
 use memory::WordParameterMemory;
@@ -65,7 +66,7 @@ impl BenchUnit {
 
     // One request, in the mode that the request before left.
     pub fn ask(&mut self, octets: &[u8]) -> Answer
-        ensures requested { λ r. ⌜ Requested (moment (wordCells (now (self .entry) .running)) (wordCells (now (self .entry) .draft)) (now (self .entry) .mode)) (lent 1024 1024 64) (now (octets .entry)) (now (self .entry) .reply) r (now (self .exit) .reply) (moment (wordCells (now (self .exit) .running)) (wordCells (now (self .exit) .draft)) (now (self .exit) .mode)) ⌝ }
+        ensures asked { λ r. ⌜ Asked (moment (wordCells (now (self .entry) .running)) (wordCells (now (self .entry) .draft)) (now (self .entry) .mode)) (now (octets .entry)) r (take (r .length) (now (self .exit) .reply)) (moment (wordCells (now (self .exit) .running)) (wordCells (now (self .exit) .draft)) (now (self .exit) .mode)) ⌝ }
         ensures bound { λ r. ⌜ r .length ≤ 1024 ⌝ }
     {
         let mut running = WordMemory {
