@@ -248,8 +248,8 @@ by-id Split = refl
 by-id Action = refl
 by-id Sequence = refl
 
-names-one-place : (a : Address) (p q : Place) → Names a p → Names a q → p ≡ q
-names-one-place a p q x y =
+pub one-place-named : (a : Address) (p q : Place) → Names a p → Names a q → p ≡ q
+one-place-named a p q x y =
     place-same p q
     (sym (by-id (p .family)) ∙ (ap byId (x .id ∙ sym (y .id)) ∙ by-id (q .family)))
     (x .first ∙ sym (y .first))
@@ -258,7 +258,7 @@ names-one-place a p q x y =
     (x .octet ∙ sym (y .octet))
 
 pub one-cell-named : (a : Address) (n m : ℕ) → NamesCell a n → NamesCell a m → n ≡ m
-one-cell-named a n m x y = sym (x .2) ∙ (ap cellOf (names-one-place a (x .0) (y .0) (x .1) (y .1)) ∙ y .2)
+one-cell-named a n m x y = sym (x .2) ∙ (ap cellOf (one-place-named a (x .0) (y .0) (x .1) (y .1)) ∙ y .2)
 
 pub number-named : (p : Place) → Stands p → isList (columnOf (p .family) (p .column) .kind) ≡ false → (a : Address) × NamesCell a (cellOf p)
 number-named p s n =

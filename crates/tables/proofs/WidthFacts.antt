@@ -3,12 +3,18 @@ use Prim.Native.Nat.{ℕ, _+_, _-_, _*_, _%_, _<_, _≤_}
 use mathlib.Core.Path.{_≡_, refl, sym, _∙_, ap, subst}
 use mathlib.Core.Bool.{Bool, true, false, cond, _||_}
 use native.Mathlib.Omega.{arith}
-use lib.Dec.{T, eqb, ltb}
+use lib.Dec.{T, eqb, ltb, leb, leb→le, lit≤}
+use mathlib.Core.Logic.{inl, inr}
+use Rattle.std.specs.declared.option.Option.the-variants.{Some, None}
 use lib.ListN.{length, getD}
 use Rattle.std.proofs.shelf.Bits.{mod-mul-add}
-use Rattle.std.proofs.shelf.Tests.{lt-ltb, le-ltb, ne-eqb, or-from}
-use Rattle.memory.specs.Top.{wide, topOf}
+use Rattle.std.proofs.shelf.Tests.{lt-ltb, le-ltb, ne-eqb, or-from, or-cases, and-parts, leb-true, eqb-true, cases-bool, cond-true, cond-false}
+use Rattle.memory.specs.Top.{wide, topOf, cellCount}
 use Rattle.tables.specs.declared.columns.Column.{Column}
+use Rattle.tables.specs.declared.columns.Kind.{Kind}
+use Rattle.tables.specs.declared.columns.Kind.the-variants.{Number, DetectorOptions, ActionPattern, PhaseList}
+use Rattle.tables.specs.declared.address.Address.{Address}
+use Rattle.tables.specs.Allowed.{Stores, allows, kindAllows, kindMeans, inRange, stored}
 use Rattle.tables.specs.declared.family.FamilyId.{FamilyId}
 use Rattle.tables.specs.declared.family.FamilyId.the-variants.{Phase, VehicleDetector, PedestrianDetector, Pattern, Split, Action, Sequence}
 use Rattle.tables.specs.declared.place.Place.{Place}
@@ -16,7 +22,7 @@ use Rattle.tables.specs.Columns.{columns, none}
 use Rattle.tables.specs.Families.{shapeOf, columnOf}
 use Rattle.tables.specs.Places.{Stands, cellOf, rowsBefore}
 use Rattle.tables.proofs.Each.{each}
-use Rattle.tables.proofs.PlaceFacts.{cell-is, cell-least, cell-last, in-row, same-test, column-at, column-within, place}
+use Rattle.tables.proofs.PlaceFacts.{cell-is, cell-least, cell-last, cell-below, in-row, same-test, column-at, column-within, place}
 
 low : (n : ℕ) → n < 608 → wide n ≡ eqb (n % 38) 19
 unfolding wide
@@ -85,3 +91,58 @@ by-family Sequence x y c o s = high (cellOf (place Sequence x y c o)) (omega (ar
 pub tops-by-width : (p : Place) → Stands p → topOf (cellOf p) ≡ cond (eqb (columnOf (p .family) (p .column) .width) 2) 65535 255
 unfolding topOf
 tops-by-width p s = ap (λ b. cond b 65535 255) (by-family (p .family) (p .first) (p .second) (p .column) (p .octet) s)
+
+-- a number column's greatest value fits its width
+bounded : Column → Bool
+bounded c = leb (c .greatest) (cond (eqb (c .width) 2) 65535 255)
+
+bounded-at : ℕ → Column → Bool
+bounded-at i c = bounded c
+
+greatest-fits : (f : FamilyId) (c : ℕ) → 1 ≤ c → c ≤ shapeOf f .columns → columnOf f c .greatest ≤ cond (eqb (columnOf f c .width) 2) 65535 255
+unfolding bounded bounded-at
+greatest-fits f c l h =
+    let i = shapeOf f .«columns_before» + (c - 1) in
+    leb→le (getD columns i none .greatest) (cond (eqb (getD columns i none .width) 2) 65535 255) (each bounded-at columns none tt i (column-within f c l h))
+
+small-top : (b : Bool) → 255 ≤ cond b 65535 255
+small-top true = lit≤ tt
+small-top false = lit≤ tt
+
+allowed-bound : (k : Kind) (c : Column) (v : ℕ) → c .greatest ≤ cond (eqb (c .width) 2) 65535 255 → kindAllows k c v ≡ true → v ≤ cond (eqb (c .width) 2) 65535 255
+allowed-bound Number c v h e = omega (arith, h, leb-true v (c .greatest) (and-parts _ _ e .1))
+allowed-bound DetectorOptions c v h e = omega (arith, h, leb-true v (c .greatest) (and-parts _ _ (and-parts _ _ e .0) .1))
+allowed-bound ActionPattern c v h e =
+    elim (or-cases (inRange c v) (eqb v 254 || eqb v 255) e) [
+      | inl r ↦ omega (arith, h, leb-true v (c .greatest) (and-parts _ _ r .1))
+      | inr r ↦
+          elim (or-cases (eqb v 254) (eqb v 255) r) [
+            | inl q ↦ omega (arith, eqb-true v 254 q, small-top (eqb (c .width) 2))
+            | inr q ↦ omega (arith, eqb-true v 255 q, small-top (eqb (c .width) 2))
+          ]
+    ]
+allowed-bound PhaseList c v h e = omega (arith, h, leb-true v (c .greatest) (and-parts _ _ e .1))
+
+stored-allowed : (c : Column) (sent v : ℕ) → stored c sent ≡ Some v → allows c v ≡ true
+stored-allowed c sent v e =
+    elim (cases-bool (allows c (kindMeans (c .kind) sent))) [
+      | inl t ↦
+          let s : stored c sent ≡ Some (kindMeans (c .kind) sent) = cond-true _ _ _ t in
+          let w : kindMeans (c .kind) sent ≡ v = cc in
+          subst (λ x. allows c x ≡ true) w t
+      | inr t ↦
+          let s : stored c sent ≡ None = cond-false _ _ _ t in
+          let z : _≡_ {A = ℕ} 0 1 = cc in
+          absurd (omega arith)
+    ]
+
+pub stored-fits : (a : Address) (sent n v : ℕ) → Stores a sent n v → (n < cellCount) × (v ≤ topOf n)
+stored-fits a sent n v s =
+    let p = s .at in
+    let stands = s .named .stands in
+    let c = columnOf (p .family) (p .column) in
+    let b : v ≤ cond (eqb (c .width) 2) 65535 255 =
+    allowed-bound (c .kind) c v (greatest-fits (p .family) (p .column) (stands .column-least) (stands .column-last)) (stored-allowed c sent v (s .value)) in (
+      omega (arith, cell-below p stands, s .cell),
+      subst (λ m. v ≤ topOf m) (s .cell) (omega (arith, b, tops-by-width p stands)),
+    )

@@ -1,5 +1,5 @@
 -- Which values a column, and a cell of a table, may hold.
-use Prim.Native.Nat.{ℕ, _-_, _/_, _%_}
+use Prim.Native.Nat.{ℕ, _-_, _/_, _%_, _<_, _≤_}
 use mathlib.Core.Path.{_≡_}
 use mathlib.Core.Bool.{Bool, true, cond, not, _&&_, _||_}
 use mathlib.Core.List.{List}
@@ -12,7 +12,9 @@ use Rattle.tables.specs.declared.columns.Kind.{Kind}
 use Rattle.tables.specs.declared.columns.Kind.the-variants.{Number, DetectorOptions, ActionPattern, PhaseList}
 use Rattle.tables.specs.declared.place.Place.{Place}
 use Rattle.tables.specs.Families.{columnOf, isList}
-use Rattle.tables.specs.Places.{Stands, cellOf}
+use Rattle.tables.specs.declared.address.Address.{Address}
+use Rattle.tables.specs.Places.{Stands, Names, cellOf}
+use Rattle.memory.specs.Top.{cellCount, topOf}
 
 -- bits 2 and 3 are both set
 abbrev pub bothSet : ℕ → Bool
@@ -59,3 +61,20 @@ AllowedAt cells p = holds p (getD cells (cellOf p) 0) (getD cells (cellOf (lengt
 
 abbrev pub AllAllowed : List ℕ → Type 0
 AllAllowed cells = (p : Place) → Stands p → AllowedAt cells p
+
+-- the address names a number, this is its cell, and this value is stored for the sent one
+pub record Stores (a : Address) (sent : ℕ) (n v : ℕ) : Type 0 where
+  pub at : Place
+  pub named : Names a at
+  pub cell : cellOf at ≡ n
+  pub value : stored (columnOf (at .family) (at .column)) sent ≡ Some v
+
+-- the address names a number, and the sent value is not allowed there
+pub record Forbids (a : Address) (sent : ℕ) : Type 0 where
+  pub at : Place
+  pub named : Names a at
+  pub value : stored (columnOf (at .family) (at .column)) sent ≡ None
+
+-- what is stored fits the cell
+abbrev pub StoredFits : Type 0
+StoredFits = (a : Address) (sent n v : ℕ) → Stores a sent n v → (n < cellCount) × (v ≤ topOf n)

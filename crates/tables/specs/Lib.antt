@@ -3,3 +3,4 @@ pub mod Families
 pub mod Places
 pub mod Allowed
 pub mod Factory
+pub mod Writes
