@@ -1,5 +1,6 @@
 pub mod ReplyFacts
 pub mod GetFacts
+pub mod SetFacts
 pub mod RequestFacts
 pub mod StartFacts
 pub mod OneOutcome

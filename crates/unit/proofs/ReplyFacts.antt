@@ -82,3 +82,7 @@ padded-from b r z os n w h e =
 -- padding looks at what follows the room alone
 pub padded-same : (os b r z : List ℕ) → z ≡ padded os r → drop replyRoom r ≡ drop replyRoom b → z ≡ padded os b
 padded-same os b r z e d = e ∙ ap (λ x. os ++ (replicate (replyRoom - length os) 0 ++ x)) d
+
+-- a reply of a 0 alone
+pub wrote-zero : {b a : List ℕ} {was is : ℕ} → was ≡ 0 → Wrote b was a is (0 ∷ []) → Wrote b 0 a is (0 ∷ [])
+wrote-zero {b = b} {a = a} {is = is} e w = subst (λ k. Wrote b k a is (0 ∷ [])) e w

@@ -7,15 +7,23 @@ use mathlib.Core.List.{List, [], _∷_, _++_}
 use lib.ListN.{length, getD, take, drop}
 use Rattle.std.proofs.shelf.Lists.{take-rest, nil-from-length}
 use Rattle.unit.specs.declared.refusal.Refusal.{Refusal}
-use Rattle.unit.specs.declared.refusal.Refusal.the-variants.{MemoryCount, Room, EmptyRequest, UnknownOperation, Mode, ItemCount, Missing, Over, NoNumber}
+use Rattle.unit.specs.declared.refusal.Refusal.the-variants.{MemoryCount, Room, EmptyRequest, UnknownOperation, Mode, ItemCount, Missing, Over, NoNumber, NotAllowed}
 use Rattle.unit.specs.declared.operation.Operation.{Operation}
-use Rattle.unit.specs.declared.operation.Operation.the-variants.{Get}
 use Rattle.unit.specs.Operations.{codeOf}
-use Rattle.unit.specs.Refusals.{unanswered}
+use mathlib.Core.Logic.{_⊎_, ⊎-elim}
+use Rattle.unit.specs.Refusals.{numberOf, unanswered}
 use Rattle.unit.specs.Items.{Miscounted, countIn, addressPlace}
 use Rattle.unit.specs.Items.Miscounted.{no-count, out-of-range, missing, over}
 use Rattle.unit.specs.Gets.{Outcome, accepted, refused, Got, twoOctets}
 use Rattle.unit.specs.Gets.Got.{miscounted, nameless, values}
+use Rattle.std.specs.declared.result.Result.{Result}
+use Rattle.std.specs.declared.result.Result.the-variants.{Ok, Err}
+use Rattle.memory.specs.Top.{cellCount}
+use Rattle.unit.specs.Sets.{ItemFault, SetTo}
+use Rattle.unit.specs.Sets.ItemFault.{nameless as item-nameless, not-allowed}
+use Rattle.unit.specs.Sets.SetTo.{miscounted as set-miscounted, faulty, taken}
+use Rattle.unit.specs.States.{SetHere}
+use Rattle.unit.specs.States.SetHere.{wrong-count, no-room, turned-away, done as set-done}
 use Rattle.unit.specs.Steps.{Moment, moment, Same}
 use Rattle.unit.proofs.GetFacts.{length-octets}
 
@@ -46,10 +54,46 @@ accepted-get cells body os (values vs w v r) =
     let s : os ≡ 0 ∷ countIn body ∷ twoOctets vs = cc in
     omega (arith, ap length s, length-octets vs, v .count, w .counted .most)
 
--- the only operation so far
-pub is-get : (p : Operation) → p ≡ Get
-is-get Get = refl
-
 -- the octets of a request with this operation
 pub coded : (octets : List ℕ) (p q : Operation) → 1 ≤ length octets → codeOf p ≡ getD octets 0 0 → p ≡ q → octets ≡ codeOf q ∷ take (length octets - 1) (drop 1 octets)
 coded octets p q h c e = first-and-rest octets h ∙ ap (λ x. x ∷ take (length octets - 1) (drop 1 octets)) (sym c ∙ ap codeOf e)
+
+-- a refused set has a reply
+fault-answered : (body : List ℕ) (k : ℕ) (e : Refusal) → ItemFault body k e → unanswered e ≡ false
+fault-answered body k e (item-nameless n r) = ap unanswered r
+fault-answered body k e (not-allowed f r) = ap unanswered r
+
+pub refused-set : (before body after : List ℕ) (e : Refusal) → SetTo before body (refused e) after → unanswered e ≡ false
+refused-set before body after e (set-miscounted d m r a) = let s : e ≡ d = cc in ap unanswered s ∙ miscounted-answered 6 body d m
+refused-set before body after e (faulty k d w f r a) = let s : e ≡ d = cc in ap unanswered s ∙ fault-answered body k d (f .here)
+refused-set before body after e (taken ws w x r t) = let z : _≡_ {A = ℕ} 0 1 = cc in absurd (omega arith)
+
+-- a set on a draft of the right count, with room enough
+pub set-refused :
+    (before body after : List ℕ) (room : ℕ) (r : Result (Unit {0}) Refusal) (e : Refusal)
+    → length before ≡ cellCount → 1024 ≤ room → SetHere before room body r after → r ≡ Err e → SetTo before body (refused e) after
+set-refused before body after room r e n h (wrong-count m q a) x = absurd (m n)
+set-refused before body after room r e n h (no-room m l q a) x = absurd (omega arith)
+set-refused before body after room r e n h (turned-away d m l q s) x = let w : d ≡ e = cc in subst (λ y. SetTo before body (refused y) after) w s
+set-refused before body after room r e n h (set-done m l q s) x = let z : _≡_ {A = ℕ} 0 1 = cc in absurd (omega arith)
+
+pub set-accepted :
+    (before body after : List ℕ) (room : ℕ) (r : Result (Unit {0}) Refusal) (u : Unit {0})
+    → length before ≡ cellCount → 1024 ≤ room → SetHere before room body r after → r ≡ Ok u → SetTo before body (accepted (0 ∷ [])) after
+set-accepted before body after room r u n h (wrong-count m q a) x = absurd (m n)
+set-accepted before body after room r u n h (no-room m l q a) x = absurd (omega arith)
+set-accepted before body after room r u n h (turned-away d m l q s) x = let z : _≡_ {A = ℕ} 0 1 = cc in absurd (omega arith)
+set-accepted before body after room r u n h (set-done m l q s) x = s
+
+-- a refusal that has a reply is none of the two that have none
+pub answered-number : (e : Refusal) → unanswered e ≡ false → (numberOf e ≡ 9) ⊎ (numberOf e ≡ 1) → ⊥
+answered-number MemoryCount a n = let z : _≡_ {A = ℕ} 0 1 = cc in omega arith
+answered-number Room a n = let z : _≡_ {A = ℕ} 0 1 = cc in omega arith
+answered-number EmptyRequest a n = ⊎-elim (λ x. omega arith) (λ x. omega arith) n
+answered-number UnknownOperation a n = ⊎-elim (λ x. omega arith) (λ x. omega arith) n
+answered-number Mode a n = ⊎-elim (λ x. omega arith) (λ x. omega arith) n
+answered-number ItemCount a n = ⊎-elim (λ x. omega arith) (λ x. omega arith) n
+answered-number (Missing k) a n = ⊎-elim (λ x. omega arith) (λ x. omega arith) n
+answered-number (Over k) a n = ⊎-elim (λ x. omega arith) (λ x. omega arith) n
+answered-number (NoNumber k) a n = ⊎-elim (λ x. omega arith) (λ x. omega arith) n
+answered-number (NotAllowed k) a n = ⊎-elim (λ x. omega arith) (λ x. omega arith) n

@@ -46,3 +46,11 @@ addressAt body k =
 -- the offset of its first octet in the request
 abbrev pub addressPlace : ℕ → ℕ
 addressPlace k = 2 + 4 * k
+
+-- the k-th value of a set of n items: two octets, the high one first, behind the n addresses
+abbrev pub sentAt : List ℕ → ℕ → ℕ → ℕ
+sentAt body n k = getD body (1 + 4 * n + 2 * k) 0 * 256 + getD body (1 + 4 * n + 2 * k + 1) 0
+
+-- the offset of its first octet in the request
+abbrev pub valuePlace : ℕ → ℕ → ℕ
+valuePlace n k = 2 + 4 * n + 2 * k

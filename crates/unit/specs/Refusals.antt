@@ -3,7 +3,7 @@ use Prim.Native.Nat.{ℕ, _/_, _%_}
 use mathlib.Core.Bool.{Bool, true, false, cond}
 use mathlib.Core.List.{List, [], _∷_}
 use Rattle.unit.specs.declared.refusal.Refusal.{Refusal}
-use Rattle.unit.specs.declared.refusal.Refusal.the-variants.{MemoryCount, Room, EmptyRequest, UnknownOperation, Mode, ItemCount, Missing, Over, NoNumber}
+use Rattle.unit.specs.declared.refusal.Refusal.the-variants.{MemoryCount, Room, EmptyRequest, UnknownOperation, Mode, ItemCount, Missing, Over, NoNumber, NotAllowed}
 
 abbrev pub numberOf : Refusal → ℕ
 numberOf MemoryCount = 9
@@ -15,6 +15,7 @@ numberOf ItemCount = 6
 numberOf (Missing n) = 6
 numberOf (Over n) = 6
 numberOf (NoNumber n) = 2
+numberOf (NotAllowed n) = 3
 
 abbrev pub layerOf : Refusal → ℕ
 layerOf MemoryCount = 0
@@ -26,6 +27,7 @@ layerOf ItemCount = 1
 layerOf (Missing n) = 1
 layerOf (Over n) = 1
 layerOf (NoNumber n) = 4
+layerOf (NotAllowed n) = 4
 
 abbrev pub placeOf : Refusal → ℕ
 placeOf MemoryCount = 0
@@ -37,6 +39,7 @@ placeOf ItemCount = 1
 placeOf (Missing n) = n
 placeOf (Over n) = n
 placeOf (NoNumber n) = n
+placeOf (NotAllowed n) = n
 
 -- the two refusals that leave reply memory alone
 abbrev pub unanswered : Refusal → Bool
@@ -49,6 +52,7 @@ unanswered ItemCount = false
 unanswered (Missing n) = false
 unanswered (Over n) = false
 unanswered (NoNumber n) = false
+unanswered (NotAllowed n) = false
 
 -- the reply of a refusal: number, layer and a two-octet place
 abbrev pub refusalOctets : Refusal → List ℕ

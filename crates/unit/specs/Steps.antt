@@ -8,13 +8,14 @@ use Rattle.memory.specs.Top.{cellCount}
 use Rattle.tables.specs.Factory.{factory}
 use Rattle.unit.specs.declared.answer.Answer.{Answer}
 use Rattle.unit.specs.declared.operation.Operation.{Operation}
-use Rattle.unit.specs.declared.operation.Operation.the-variants.{Get}
+use Rattle.unit.specs.declared.operation.Operation.the-variants.{Get, Set, Open, Abandon}
 use Rattle.unit.specs.declared.refusal.Refusal.{Refusal}
-use Rattle.unit.specs.declared.refusal.Refusal.the-variants.{MemoryCount, Room, EmptyRequest, UnknownOperation, Mode}
+use Rattle.unit.specs.declared.refusal.Refusal.the-variants.{MemoryCount, Room, EmptyRequest, UnknownOperation, Mode, Over}
 use Rattle.unit.specs.Refusals.{numberOf, unanswered, refusalOctets}
 use Rattle.unit.specs.Operations.{codeOf, takesMode}
 use Rattle.unit.specs.Replies.{replyRoom, padded}
 use Rattle.unit.specs.Gets.{Outcome, accepted, refused, Got}
+use Rattle.unit.specs.Sets.{SetTo}
 
 -- a factory start writes the factory table, or is refused for the count and changes no cell
 pub data FactoryStarted (before : List ℕ) (a : Answer) (after : List ℕ) : Type 0 where
@@ -56,12 +57,47 @@ pub record Same (s t : Moment) : Type 0 where
   pub draft : t .draft ≡ s .draft
   pub mode : t .mode ≡ s .mode
 
+-- a get answers from the running table and changes nothing
+pub record Gets (s : Moment) (body : List ℕ) (o : Outcome) (t : Moment) : Type 0 where
+  pub got : Got (s .running) body o
+  pub same : Same s t
+
+-- a set changes the draft alone
+pub record Sets (s : Moment) (body : List ℕ) (o : Outcome) (t : Moment) : Type 0 where
+  pub draft : SetTo (s .draft) body o (t .draft)
+  pub running : t .running ≡ s .running
+  pub mode : t .mode ≡ s .mode
+
+-- an operation that stands alone: octets behind it are over
+abbrev pub AllAlone : List ℕ → Outcome → Type 0
+AllAlone body o = (body ≡ []) × (o ≡ accepted (0 ∷ []))
+
+abbrev pub Followed : Moment → List ℕ → Outcome → Moment → Type 0
+Followed s body o t = (body ≡ [] → ⊥) × (o ≡ refused (Over 1)) × Same s t
+
+-- an opening makes the draft's cells those of the running table, and the mode editing
+pub data Opens (s : Moment) (body : List ℕ) (o : Outcome) (t : Moment) : Type 0 where
+  over : Followed s body o t → Opens s body o t
+  opened : AllAlone body o → t .running ≡ s .running → t .draft ≡ s .running → t .mode ≡ 1 → Opens s body o t
+
+-- an abandonment changes no cell, and the mode becomes quiet
+pub data Abandons (s : Moment) (body : List ℕ) (o : Outcome) (t : Moment) : Type 0 where
+  over : Followed s body o t → Abandons s body o t
+  abandoned : AllAlone body o → t .running ≡ s .running → t .draft ≡ s .draft → t .mode ≡ 0 → Abandons s body o t
+
+-- what each operation does; the body is what follows its octet
+abbrev pub Does : Operation → Moment → List ℕ → Outcome → Moment → Type 0
+Does Get = Gets
+Does Set = Sets
+Does Open = Opens
+Does Abandon = Abandons
+
 -- what the octets of a request come to, on memories of the right count and with room enough
 pub data Answered (s : Moment) (octets : List ℕ) (o : Outcome) (t : Moment) : Type 0 where
   empty : octets ≡ [] → o ≡ refused EmptyRequest → Same s t → Answered s octets o t
   unknown : (code : ℕ) (body : List ℕ) → octets ≡ code ∷ body → ((p : Operation) → codeOf p ≡ code → ⊥) → o ≡ refused UnknownOperation → Same s t → Answered s octets o t
   not-taken : (p : Operation) (body : List ℕ) → octets ≡ codeOf p ∷ body → takesMode p (s .mode) ≡ false → o ≡ refused Mode → Same s t → Answered s octets o t
-  got : (body : List ℕ) → octets ≡ codeOf Get ∷ body → takesMode Get (s .mode) ≡ true → Got (s .running) body o → Same s t → Answered s octets o t
+  done : (p : Operation) (body : List ℕ) → octets ≡ codeOf p ∷ body → takesMode p (s .mode) ≡ true → Does p s body o t → Answered s octets o t
 
 -- one request, from the moment s to the moment t: the counts are tested first, then the room, then the octets
 pub data Step (s : Moment) (l : Lent) (octets : List ℕ) (o : Outcome) (t : Moment) : Type 0 where

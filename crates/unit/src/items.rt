@@ -3,7 +3,7 @@ ghost use mathlib.Core.List.{List};
 ghost use Prim.Native.Nat.{ℕ, _+_, _-_, _*_, _<_, _≤_};
 ghost use lib.ListN.{length, getD, drop};
 ghost use Rattle.std.specs.Results.{Cases};
-ghost use Rattle.unit.specs.Items.{Whole, Miscounted, addressAt, countIn};
+ghost use Rattle.unit.specs.Items.{Whole, Miscounted, addressAt, sentAt, countIn};
 use super::refusal::Refusal;
 use tables::address::Address;
 
@@ -41,4 +41,13 @@ pub fn address_at(items: &[u8], item: usize) -> Address
         first: items[at + 2],
         second: items[at + 3],
     }
+}
+
+// The value of the item of this number, of `count` in all: two octets, the high one first.
+pub fn sent_at(items: &[u8], count: usize, item: usize) -> u16
+    requires { ⌜ 4 * count + 2 * item + 2 ≤ length (now items) ⌝ }
+    ensures { λ r. ⌜ ((body : List ℕ) → now (items .entry) ≡ drop 1 body → r ≡ sentAt body count item) ⌝ }
+{
+    let at = 4 * count + 2 * item;
+    items[at] as u16 * 256 + items[at + 1] as u16
 }

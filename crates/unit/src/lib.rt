@@ -3,9 +3,12 @@ pub mod answer;
 mod get;
 mod items;
 pub mod operation;
+mod operations;
 pub mod refusal;
 mod reply;
 pub mod request;
+mod set;
 pub mod start;
+pub mod states;
 #[cfg(test)]
 mod tests;

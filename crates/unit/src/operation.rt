@@ -7,6 +7,9 @@ ghost use Rattle.unit.specs.Operations.{codeOf, takesMode};
 #[derive(Clone, Copy)]
 pub enum Operation {
     Get,
+    Set,
+    Open,
+    Abandon,
 }
 
 impl Operation {
@@ -16,6 +19,9 @@ impl Operation {
     {
         match octet {
             1 => Some(Operation::Get),
+            2 => Some(Operation::Set),
+            5 => Some(Operation::Open),
+            9 => Some(Operation::Abandon),
             _ => None,
         }
     }
@@ -26,6 +32,9 @@ impl Operation {
     {
         match self {
             Operation::Get => mode <= 2,
+            Operation::Set => mode == 1,
+            Operation::Open => mode == 0,
+            Operation::Abandon => mode == 1 || mode == 2,
         }
     }
 }

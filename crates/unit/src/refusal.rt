@@ -22,6 +22,8 @@ pub enum Refusal {
     Over(u16),
     // an address that names no number column: the offset of its first octet
     NoNumber(u16),
+    // a value that is not allowed: the offset of its first octet
+    NotAllowed(u16),
 }
 
 impl Refusal {
@@ -35,6 +37,7 @@ impl Refusal {
             Refusal::Mode => 5,
             Refusal::ItemCount | Refusal::Missing(_) | Refusal::Over(_) => 6,
             Refusal::NoNumber(_) => 2,
+            Refusal::NotAllowed(_) => 3,
         }
     }
 
@@ -47,7 +50,7 @@ impl Refusal {
             Refusal::EmptyRequest | Refusal::UnknownOperation => 1,
             Refusal::Mode => 2,
             Refusal::ItemCount | Refusal::Missing(_) | Refusal::Over(_) => 1,
-            Refusal::NoNumber(_) => 4,
+            Refusal::NoNumber(_) | Refusal::NotAllowed(_) => 4,
         }
     }
 
@@ -60,7 +63,7 @@ impl Refusal {
             Refusal::EmptyRequest | Refusal::UnknownOperation | Refusal::Mode => 0,
             Refusal::ItemCount => 1,
             Refusal::Missing(length) => length,
-            Refusal::Over(at) | Refusal::NoNumber(at) => at,
+            Refusal::Over(at) | Refusal::NoNumber(at) | Refusal::NotAllowed(at) => at,
         }
     }
 }

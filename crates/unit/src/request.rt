@@ -5,13 +5,17 @@ ghost use lib.ListN.{length, take, drop};
 ghost use Rattle.std.specs.Results.{Cases};
 ghost use Rattle.memory.specs.Top.{cellCount};
 ghost use mathlib.Core.Bool.{false};
+ghost use mathlib.Core.Logic.{_⊎_};
 ghost use Rattle.unit.specs.Refusals.{numberOf, refusalOctets, unanswered};
 ghost use Rattle.unit.specs.Replies.{Wrote, replyRoom, padded};
 ghost use Rattle.unit.specs.Gets.{accepted, refused};
-ghost use Rattle.unit.specs.Steps.{Answered, OneOutcome, Requested, lent, moment};
+ghost use Rattle.unit.specs.Steps.{Answered, Counts, OneOutcome, Requested, lent, moment};
 use super::answer::Answer;
-use super::get::get;
 use super::operation::Operation;
+use super::operations::abandon_request;
+use super::operations::get_request;
+use super::operations::open_request;
+use super::operations::set_request;
 use super::refusal::Refusal;
 use super::reply::Position;
 use super::reply::REPLY_OCTETS;
@@ -28,24 +32,26 @@ pub const WRITES: usize = 1024;
 
 pub const FINDINGS: usize = 64;
 
-// What the request's octets come to; an accepted request's reply is written.
+// What the request's octets come to; an accepted request's reply is written, and the mode after it returned.
 fn answer_octets<R: ParameterMemory, D: ParameterMemory>(
     mode: u8,
     running: &mut R,
     draft: &mut D,
     octets: &[u8],
+    writes: &mut [StagedWrite],
     reply: &mut [u8],
     position: &mut Position,
-) -> Result<(), Refusal>
+) -> Result<u8, Refusal>
     requires sound { ⌜ R·ParameterMemory .sound (now running) × D·ParameterMemory .sound (now draft) ⌝ }
-    requires count { ⌜ length (R·ParameterMemory .cells (now running)) ≡ cellCount ⌝ }
+    requires counts { ⌜ Counts (moment (R·ParameterMemory .cells (now running)) (D·ParameterMemory .cells (now draft)) mode) ⌝ }
+    requires room { ⌜ 1024 ≤ length (now writes) ⌝ }
     requires start { ⌜ now position .length ≡ 0 ⌝ }
     requires long { ⌜ replyRoom ≤ length (now reply) ⌝ }
     ensures sound { λ _. ⌜ R·ParameterMemory .sound (now (running .exit)) × D·ParameterMemory .sound (now (draft .exit)) ⌝ }
     ensures running_kept { λ _. ⌜ R·ParameterMemory .kept (now (running .exit)) ≡ R·ParameterMemory .kept (now (running .entry)) ⌝ }
     ensures draft_kept { λ _. ⌜ D·ParameterMemory .kept (now (draft .exit)) ≡ D·ParameterMemory .kept (now (draft .entry)) ⌝ }
     ensures outcome { λ r. ⌜ Cases r
-        (λ _. (os : List ℕ) × Answered (moment (R·ParameterMemory .cells (now (running .entry))) (D·ParameterMemory .cells (now (draft .entry))) mode) (now (octets .entry)) (accepted os) (moment (R·ParameterMemory .cells (now (running .exit))) (D·ParameterMemory .cells (now (draft .exit))) mode) × Wrote (now (reply .entry)) 0 (now (reply .exit)) (now (position .exit) .length) os × (length os ≤ replyRoom))
+        (λ m. (os : List ℕ) × Answered (moment (R·ParameterMemory .cells (now (running .entry))) (D·ParameterMemory .cells (now (draft .entry))) mode) (now (octets .entry)) (accepted os) (moment (R·ParameterMemory .cells (now (running .exit))) (D·ParameterMemory .cells (now (draft .exit))) m) × Wrote (now (reply .entry)) 0 (now (reply .exit)) (now (position .exit) .length) os × (length os ≤ replyRoom))
         (λ e. Answered (moment (R·ParameterMemory .cells (now (running .entry))) (D·ParameterMemory .cells (now (draft .entry))) mode) (now (octets .entry)) (refused e) (moment (R·ParameterMemory .cells (now (running .exit))) (D·ParameterMemory .cells (now (draft .exit))) mode) × (now (position .exit) .length ≡ 0) × (unanswered e ≡ false)) ⌝ }
     ensures later { λ _. ⌜ drop replyRoom (now (reply .exit)) ≡ drop replyRoom (now (reply .entry)) ⌝ }
 {
@@ -59,7 +65,10 @@ fn answer_octets<R: ParameterMemory, D: ParameterMemory>(
         return Err(Refusal::Mode);
     }
     match operation {
-        Operation::Get => get(running, body, reply, position),
+        Operation::Get => get_request(mode, running, draft, body, reply, position),
+        Operation::Set => set_request(mode, running, draft, body, writes, reply, position),
+        Operation::Open => open_request(mode, running, draft, body, reply, position),
+        Operation::Abandon => abandon_request(mode, running, draft, body, reply, position),
     }
 }
 
@@ -100,7 +109,7 @@ pub fn request<R: ParameterMemory, D: ParameterMemory>(
     ensures running_kept { λ _. ⌜ R·ParameterMemory .kept (now (running .exit)) ≡ R·ParameterMemory .kept (now (running .entry)) ⌝ }
     ensures draft_kept { λ _. ⌜ D·ParameterMemory .kept (now (draft .exit)) ≡ D·ParameterMemory .kept (now (draft .entry)) ⌝ }
     ensures requested { λ r. ⌜ Requested (moment (R·ParameterMemory .cells (now (running .entry))) (D·ParameterMemory .cells (now (draft .entry))) mode) (lent (length (now (reply .entry))) (length (now (writes .entry))) (length (now (findings .entry)))) (now (octets .entry)) (now (reply .entry)) r (now (reply .exit)) (moment (R·ParameterMemory .cells (now (running .exit))) (D·ParameterMemory .cells (now (draft .exit))) (r .mode)) ⌝ }
-    ensures lists { λ r. ⌜ (r .length ≡ 0 → (now (writes .exit) ≡ now (writes .entry)) × (now (findings .exit) ≡ now (findings .entry))) ⌝ }
+    ensures lists { λ r. ⌜ ((r .number ≡ 9) ⊎ (r .number ≡ 1) → (now (writes .exit) ≡ now (writes .entry)) × (now (findings .exit) ≡ now (findings .entry))) ⌝ }
 {
     if running.count() != CELLS || draft.count() != CELLS {
         return Answer {
@@ -117,8 +126,8 @@ pub fn request<R: ParameterMemory, D: ParameterMemory>(
         };
     }
     let mut position = Position { length: 0 };
-    match answer_octets(mode, running, draft, octets, reply, &mut position) {
-        Ok(()) => {
+    match answer_octets(mode, running, draft, octets, writes, reply, &mut position) {
+        Ok(mode) => {
             let length = position.length;
             pad(reply, length);
             Answer {

@@ -1,6 +1,8 @@
 use super::answer::Answer;
 use super::request::request;
+use super::start::begin;
 use super::start::factory_start;
+use super::states::Unopened;
 use memory::WordMemory;
 use memory::WordParameterMemory;
 use memory::packed::PackedMemory;
@@ -160,5 +162,48 @@ fn a_get_reads_packed_octets() -> Result<(), Fail> {
             },
         ).number,
         9,
+    )
+}
+
+// The options of phase 1 become 0x0102.
+const ONE: [u8; 7] = [1, 0, 20, 1, 0, 1, 2];
+
+// The options of phase 1 become 0x0304, and the mode of split 1's phase 1 becomes 250, which no mode may be.
+const TWO: [u8; 13] = [2, 0, 20, 1, 0, 4, 2, 1, 1, 3, 4, 0, 250];
+
+// Begins, opens an edit, sets twice and gives the edit up: whether each set was accepted, and the mode; none where the
+// unit does not begin or open.
+fn edit(running: &mut [u16], draft: &mut [u16]) -> Option<(bool, bool, u8)> {
+    let mut writes = [StagedWrite { cell: 0, value: 0 }; 1024];
+    let mut running = WordMemory { words: running };
+    let mut draft = WordMemory { words: draft };
+    let Ok(quiet) = begin(&mut running) else {
+        return None;
+    };
+    match quiet.open(&mut running, &mut draft) {
+        Ok(editing) => {
+            let one = editing.set(&mut draft, &ONE, &mut writes).is_ok();
+            let two = editing.set(&mut draft, &TWO, &mut writes).is_ok();
+            Some((one, two, editing.abandon().into_mode()))
+        }
+        Err(Unopened { state, refusal: _ }) => {
+            let _ = state.into_mode();
+            None
+        }
+    }
+}
+
+#[test]
+fn typed_calls_edit_the_draft() -> Result<(), Fail> {
+    let mut running = [0xA5A5; 2544];
+    let mut draft = [0x6666; 2544];
+    check_eq(edit(&mut running, &mut draft), Some((true, false, 0)))?;
+    check_eq(
+        (running[18], running[19], running[1409]),
+        (0xA501, 0, 0xA502),
+    )?;
+    check_eq(
+        (draft[18], draft[19], draft[1409]),
+        (0x6601, 0x0102, 0x6602),
     )
 }

@@ -5,6 +5,8 @@ use mathlib.Core.List.{List, [], _∷_}
 use borrow.Author.Needs.{needs}
 use Rattle.unit.specs.Gets.{accepted, refused}
 use Rattle.unit.specs.Replies.{padded}
+use mathlib.Core.Logic.{inl, inr, ⊎-elim}
+use Rattle.unit.proofs.RequestFacts.{answered-number}
 use lib.ListN.{length}
 use Rattle.std.proofs.shelf.Tests.{cond-false}
 use Rattle.unit.specs.Refusals.{unanswered, refusalOctets}
@@ -79,7 +81,7 @@ returns-in-Ok g c =
             memory = padded-from _ _ _ (o .0) _ (o .2) (omega (arith, o .2 .len, o .3)) (c .pad .ensures);
             mode = refl;
           };
-      lists = λ _. (refl, refl);
+      lists = λ n. absurd (⊎-elim (λ x. omega arith) (λ x. omega arith) n);
     }
 
 pub returns-in-Err : need.returns-in-Err
@@ -107,5 +109,5 @@ returns-in-Err g c =
                 ∙ sym (cond-false (unanswered e) (c .args .reply .now) (padded (refusalOctets e) (c .args .reply .now)) (o .2));
             mode = refl;
           };
-      lists = λ _. (refl, refl);
+      lists = λ n. absurd (answered-number e (o .2) (⊎-elim (λ x. inl (sym (c .refuse .ensures .number) ∙ x)) (λ x. inr (sym (c .refuse .ensures .number) ∙ x)) n));
     }

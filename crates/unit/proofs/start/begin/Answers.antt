@@ -3,9 +3,8 @@ use Prim.Native.Nat.{_+_, _<_}
 use mathlib.Core.Path.{_≡_, refl, sym, subst, _∙_, ap}
 use lib.ListN.{length, take}
 use Rattle.memory.specs.Cells.{written}
-use Rattle.unit.specs.Steps.FactoryStarted.{wrong-count, begun}
 use Rattle.unit.proofs.StartFacts.{factory-step, factory-end}
-use Rattle.unit.proofs.start.factory_start.Needs as need
+use Rattle.unit.proofs.start.begin.Needs as need
 
 pub loop-cell-again : need.loop-cell-again
 loop-cell-again g c =
@@ -25,5 +24,10 @@ returns g c =
     record {
       sound = inv .3;
       kept = inv .2;
-      started = begun (sym (c .count .ensures .value) ∙ omega arith) refl refl refl (factory-end _ (c .loop-cell .cell) (omega arith) (inv .1) (inv .0));
+      started =
+          record {
+            count = sym (c .count .ensures .value) ∙ omega arith;
+            cells = factory-end _ (c .loop-cell .cell) (omega arith) (inv .1) (inv .0);
+            mode = c .new .ensures;
+          };
     }

@@ -3,7 +3,7 @@ use mathlib.Core.Path.{_≡_}
 use lib.ListN.{length, take}
 use Rattle.memory.specs.Top.{cellCount}
 use Rattle.tables.specs.Factory.{factory}
-use Rattle.unit.proofs.start.factory_start.Given as given
+use Rattle.unit.proofs.start.begin.Given as given
 
 -- the cells so far are the factory table's
 abbrev pub Inv-loop-cell : given.InvT-loop-cell
