@@ -3,12 +3,13 @@
  *
  *   client words     runs the script on standard input on memories of words
  *   client packed    the same on packed memories
- *   client refusals  tries memories of wrong lengths, a line for each
+ *   client refusals  tries memories of wrong lengths and wrong modes, a line for each
  *
  * A line of a script is a request: capital hexadecimal pairs parted by one space,
  * at most 1,024 of them; an empty line is an empty request. The reply is printed
  * in the same way, and `bad line` for any other line. After each call the client
- * looks at what the call must leave alone, and ends with status 1 where it did not.
+ * looks at what the call must leave alone, at the mode and at the draft's cells, and
+ * ends with status 1 where one of them is not as it should be.
  */
 #include <stdbool.h>
 #include <stdio.h>
@@ -35,6 +36,9 @@
 
 enum form { WORDS, PACKED };
 
+/* The first octets of requests. */
+enum { GET = 1, SET = 2, OPEN = 5, ABANDON = 9 };
+
 /* All memory that a call may reach. */
 struct memory {
     uint16_t running_words[MOST_WORDS + GUARD];
@@ -56,6 +60,9 @@ static struct memory memory;
 
 /* The same before the call. */
 static struct memory before;
+
+/* The cells that the draft should have. */
+static uint16_t expected_draft[SAGBUWEN_CELLS];
 
 static const char *const form_names[] = {"words", "packed"};
 
@@ -117,42 +124,145 @@ static bool is_wide(size_t cell)
     return cell < 1248 && (cell - 608) % 10 == 3;
 }
 
-/* Lets `before` have what a call on right memories may change: the running cells
-   and the first 1,024 octets of reply memory. */
-static void allow_changes(enum form form)
+/* Lets words that were there before have the cells that are there now. */
+static void allow_cells(uint16_t *was, const uint16_t *is)
+{
+    for (size_t i = 0; i < SAGBUWEN_CELLS; i++) {
+        unsigned cell = is_wide(i) ? 0xFFFF : 0x00FF;
+        was[i] = (uint16_t)((was[i] & ~cell) | (is[i] & cell));
+    }
+}
+
+static void allow_running(enum form form)
 {
     if (form == WORDS) {
-        for (size_t i = 0; i < SAGBUWEN_CELLS; i++) {
-            uint16_t high = is_wide(i) ? 0 : before.running_words[i] & 0xFF00;
-            uint16_t cell = memory.running_words[i] & (is_wide(i) ? 0xFFFF : 0x00FF);
-            before.running_words[i] = high | cell;
-        }
+        allow_cells(before.running_words, memory.running_words);
     } else {
         memcpy(before.running_octets, memory.running_octets, SAGBUWEN_PACKED_OCTETS);
     }
-    memcpy(before.reply, memory.reply, SAGBUWEN_REPLY_OCTETS);
+}
+
+static void allow_draft(enum form form)
+{
+    if (form == WORDS) {
+        allow_cells(before.draft_words, memory.draft_words);
+    } else {
+        memcpy(before.draft_octets, memory.draft_octets, SAGBUWEN_PACKED_OCTETS);
+    }
 }
 
 #define SAME(part) (memcmp(memory.part, before.part, sizeof memory.part) == 0)
 
-/* Ends the client if a call on right memories changed anything else. */
-static void check_kept(enum form form)
+/* Ends the client if a call changed more than `before` was let have. */
+static void check_kept(void)
 {
-    allow_changes(form);
-    if (!SAME(running_words)) {
-        fail("the high octet of a narrow cell changed, or a word that was not lent");
-    }
-    if (!SAME(running_octets)) {
-        fail("a packed octet that was not lent changed");
+    if (!SAME(running_words) || !SAME(running_octets)) {
+        fail("running memory changed, or more of it than its cells");
     }
     if (!SAME(draft_words) || !SAME(draft_octets)) {
-        fail("the draft changed");
+        fail("draft memory changed, or more of it than its cells");
     }
     if (!SAME(request)) {
         fail("the request changed");
     }
     if (!SAME(reply)) {
-        fail("reply memory changed past octet 1,024");
+        fail("more of reply memory changed than a reply may");
+    }
+}
+
+/* A request changes at most the first 1,024 octets of reply memory and, where it is
+   an accepted open or set, the draft's cells. */
+static void check_request_kept(enum form form, sagbuwen_answer answer)
+{
+    uint8_t operation = memory.request[0];
+    if (answer.number == SAGBUWEN_ACCEPTED && (operation == OPEN || operation == SET)) {
+        allow_draft(form);
+    }
+    memcpy(before.reply, memory.reply, SAGBUWEN_REPLY_OCTETS);
+    check_kept();
+}
+
+/* Ends the client if the mode after a request is not what the request leads to. */
+static void check_mode(uint8_t mode, sagbuwen_answer answer)
+{
+    if (answer.number == SAGBUWEN_ACCEPTED && memory.request[0] == OPEN) {
+        mode = SAGBUWEN_EDITING;
+    }
+    if (answer.number == SAGBUWEN_ACCEPTED && memory.request[0] == ABANDON) {
+        mode = SAGBUWEN_QUIET;
+    }
+    if (answer.mode != mode) {
+        fail("the mode is wrong");
+    }
+}
+
+/* Reads the cells of a memory, which is words or packed octets. */
+static void read_cells(enum form form, const uint16_t *words, const uint8_t *octets, uint16_t *cells)
+{
+    for (size_t i = 0; i < SAGBUWEN_CELLS; i++) {
+        if (form == WORDS) {
+            cells[i] = is_wide(i) ? words[i] : words[i] & 0x00FF;
+        } else {
+            cells[i] = *octets++;
+            if (is_wide(i)) {
+                cells[i] = (uint16_t)(cells[i] << 8 | *octets++);
+            }
+        }
+    }
+}
+
+/* The cell of the number that an address names. */
+static size_t cell_of(const uint8_t *address)
+{
+    static const struct {
+        size_t cells_before;
+        size_t row_cells;
+    } families[] = {{0, 38}, {608, 10}, {1248, 4}, {1280, 4}, {1408, 3}, {2176, 3}};
+
+    if (address[0] >= sizeof families / sizeof families[0]) {
+        fail("an address of no number was accepted");
+    }
+    /* Only splits have a second index: sixteen rows to each. */
+    size_t second = address[3] == 0 ? 0 : address[3] - 1u;
+    size_t row = second * 16 + address[2] - 1u;
+    size_t row_begins = families[address[0]].cells_before + row * families[address[0]].row_cells;
+    size_t cell = row_begins + address[1] - 1u;
+    if (cell >= SAGBUWEN_CELLS) {
+        fail("an address of no number was accepted");
+    }
+    return cell;
+}
+
+/* What an accepted set leads to: its values in order. */
+static void expect_set(const uint8_t *set)
+{
+    size_t count = set[1];
+    for (size_t i = 0; i < count; i++) {
+        const uint8_t *address = &set[2 + 4 * i];
+        const uint8_t *sent = &set[2 + 4 * count + 2 * i];
+        uint16_t value = (uint16_t)(sent[0] << 8 | sent[1]);
+        bool detector_options = address[0] == 1 && address[1] == 1;
+        if (detector_options && (value & 0x0C) == 0x0C) {
+            value &= 0xFFF7;
+        }
+        expected_draft[cell_of(address)] = value;
+    }
+}
+
+/* Ends the client if the draft's cells are not those that the requests lead to. */
+static void check_draft(enum form form, sagbuwen_answer answer)
+{
+    uint16_t cells[SAGBUWEN_CELLS];
+
+    if (answer.number == SAGBUWEN_ACCEPTED && memory.request[0] == OPEN) {
+        read_cells(form, memory.running_words, memory.running_octets, expected_draft);
+    }
+    if (answer.number == SAGBUWEN_ACCEPTED && memory.request[0] == SET) {
+        expect_set(memory.request);
+    }
+    read_cells(form, memory.draft_words, memory.draft_octets, cells);
+    if (memcmp(cells, expected_draft, sizeof cells) != 0) {
+        fail("a cell of the draft is wrong");
     }
 }
 
@@ -239,10 +349,9 @@ static void run_script(enum form form)
     if (answer.number != SAGBUWEN_ACCEPTED || answer.mode != SAGBUWEN_QUIET || answer.length != 0) {
         fail("the factory start does not answer 0, quiet and no reply");
     }
-    if (!SAME(reply)) {
-        fail("the factory start wrote reply memory");
-    }
-    check_kept(form);
+    allow_running(form);
+    check_kept();
+    read_cells(form, memory.draft_words, memory.draft_octets, expected_draft);
 
     unsigned char line[LINE_ROOM];
     size_t length;
@@ -254,8 +363,11 @@ static void run_script(enum form form)
             continue;
         }
         memset(memory.reply, FILL, SAGBUWEN_REPLY_OCTETS);
-        answer = request(form, answer.mode, lent, octets);
-        check_kept(form);
+        uint8_t mode = answer.mode;
+        answer = request(form, mode, lent, octets);
+        check_request_kept(form, answer);
+        check_mode(mode, answer);
+        check_draft(form, answer);
         check_reply(answer);
         print_octets(memory.reply, answer.length);
     }
@@ -284,18 +396,28 @@ static void try_start(enum form form, size_t running)
     print_answer(start(form, running));
 }
 
-/* A get of two numbers on memories of these lengths, in a mode. */
-static void try_request(enum form form, struct lengths lent, uint8_t mode)
-{
-    static const uint8_t get[] = {1, 2, 1, 1, 1, 0, 1, 2, 16, 0};
+/* A request to try. */
+struct attempt {
+    const char *name;
+    size_t count;
+    uint8_t octets[10];
+};
 
+static const struct attempt get_two = {"get", 10, {GET, 2, 1, 1, 1, 0, 1, 2, 16, 0}};
+static const struct attempt set_one = {"set", 8, {SET, 1, 0, 3, 1, 0, 0, 10}};
+static const struct attempt open_edit = {"open", 1, {OPEN}};
+static const struct attempt abandon_edit = {"abandon", 1, {ABANDON}};
+
+/* The request on memories of these lengths, in a mode. */
+static void try_request(const struct attempt *tried, enum form form, struct lengths lent, uint8_t mode)
+{
     fill_memory();
     (void)start(form, right_lengths(form).running);
-    memcpy(memory.request, get, sizeof get);
-    printf("request %s, running %zu, draft %zu, reply %zu: ", form_names[form], lent.running, lent.draft,
-           lent.reply);
-    sagbuwen_answer answer = request(form, mode, lent, sizeof get);
-    if (answer.number == SAGBUWEN_ACCEPTED) {
+    memcpy(memory.request, tried->octets, tried->count);
+    printf("%s %s, running %zu, draft %zu, reply %zu: ", tried->name, form_names[form], lent.running,
+           lent.draft, lent.reply);
+    sagbuwen_answer answer = request(form, mode, lent, tried->count);
+    if (answer.length > 0) {
         check_reply(answer);
     }
     print_answer(answer);
@@ -316,21 +438,29 @@ static void try_refusals(void)
         for (size_t i = 0; i < 3; i++) {
             struct lengths lent = right;
             lent.running = wrong[i];
-            try_request(form, lent, SAGBUWEN_EDITING);
+            try_request(&get_two, form, lent, SAGBUWEN_EDITING);
+            try_request(&open_edit, form, lent, SAGBUWEN_QUIET);
         }
         for (size_t i = 0; i < 3; i++) {
             struct lengths lent = right;
             lent.draft = wrong[i];
-            try_request(form, lent, SAGBUWEN_CHECKED);
+            try_request(&get_two, form, lent, SAGBUWEN_CHECKED);
+            try_request(&set_one, form, lent, SAGBUWEN_EDITING);
         }
         for (size_t i = 0; i < 4; i++) {
             struct lengths lent = right;
             lent.reply = replies[i];
-            try_request(form, lent, SAGBUWEN_CHECKED);
+            try_request(&get_two, form, lent, SAGBUWEN_CHECKED);
+            try_request(&abandon_edit, form, lent, SAGBUWEN_CHECKED);
         }
         /* The memories are tested before the room. */
         struct lengths none = {0, 0, 0};
-        try_request(form, none, 255);
+        try_request(&get_two, form, none, 255);
+        /* Modes that the operation is not taken in. */
+        try_request(&get_two, form, right, 3);
+        try_request(&set_one, form, right, SAGBUWEN_CHECKED);
+        try_request(&open_edit, form, right, SAGBUWEN_CHECKED);
+        try_request(&abandon_edit, form, right, 255);
     }
 }
 

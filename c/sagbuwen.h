@@ -12,7 +12,8 @@
  * stands in the memories and the mode that the firmware hands in:
  *
  *   running   the table that the controller runs on
- *   draft     the table that is being edited
+ *   draft     the table that is being edited; until an edit is opened it may hold
+ *             anything
  *   mode      whether an edit is open: SAGBUWEN_QUIET, _EDITING or _CHECKED
  *
  * A memory comes in one of two forms, each with calls of its own:
@@ -70,6 +71,7 @@ extern "C" {
 #define SAGBUWEN_ACCEPTED 0
 #define SAGBUWEN_NO_ROOM 1      /* reply memory is shorter than 1,024 octets */
 #define SAGBUWEN_NO_SUCH 2      /* an address names no number of the table */
+#define SAGBUWEN_NOT_ALLOWED 3  /* a value is not allowed where it is to stand */
 #define SAGBUWEN_WRONG_MODE 5   /* the operation is not taken in this mode */
 #define SAGBUWEN_MALFORMED 6    /* no octets, an operation that is not known, a
                                    count out of range, octets missing or over */
@@ -104,14 +106,29 @@ sagbuwen_answer sagbuwen_factory_start_packed(uint8_t *running, size_t running_o
  * 1,024; later octets are untouched. The reply's first octet is the number
  * returned. The reply to a refusal has four octets: the number; the layer of the
  * fault (1 the request's octets, 2 the mode, 4 its values); and its place, high
- * octet first: the offset in the request of the octet or address at fault, or the
- * request's length where octets are missing.
+ * octet first: the offset in the request of the octet at fault or of the first
+ * octet of the address or value at fault, or the request's length where octets are
+ * missing. A refused request changes no cell and leaves the mode as it is.
  *
- * Requests by their first octet:
+ * Requests by their first octet; the mode is tested before the octets behind it:
  *
  *   1, get: a count n of 1 to 32, then n addresses of four octets (data ID,
- *   column, first index, second index or 0). The reply: 0, n, then n values of
- *   two octets, the high one first. Taken in every mode. It changes no cell.
+ *   column, first index, second index or 0). The reply: 0, n, then the n values of
+ *   the running table, two octets each, the high one first. Taken in every mode. It
+ *   changes no cell.
+ *
+ *   2, set: a count n of 1 to 32, then n addresses as in a get, then n values of
+ *   two octets, the high one first. The reply: 0. The draft takes the values in
+ *   order, all of them or none: of two values for one number the last counts. Each
+ *   item is tested in turn, its address before its value. A vehicle detector's
+ *   options with bits 2 and 3 both set are taken with bit 3 clear. Taken while
+ *   editing, and leaves the mode so. It changes no cell of the running table.
+ *
+ *   5, open: nothing behind it. The reply: 0. The draft's cells become those of
+ *   the running table, and the mode becomes editing. Taken while quiet.
+ *
+ *   9, abandon: nothing behind it. The reply: 0. The mode becomes quiet; no cell
+ *   changes. Taken while editing or checked.
  */
 sagbuwen_answer sagbuwen_request_words(uint8_t mode,
                                        uint16_t *running, size_t running_words,

@@ -39,6 +39,7 @@ fn tell_reply(rt: &LibcRuntime, reply: &[u8]) -> io::Result<()> {
     let shown = laid_out(rt.alloc(), spelled.as_bytes())?;
     println!(rt, "  < {shown}")?;
     match read(rt.alloc(), reply)? {
+        Reading::Done => println!(rt, "  done\n"),
         Reading::Numbers(numbers) => {
             let list = NumberList {
                 numbers: numbers.as_slice(),

@@ -9,6 +9,11 @@ use Rattle.unit.specs.Gets.{twoOctets}
 use Rattle.unit.proofs.GetFacts.{octets-more, length-octets}
 use Rattle.readings.specs.Replies.{numbersReply}
 
+pub one : (xs : List ℕ) → length xs ≡ 1 → xs ≡ getD xs 0 0 ∷ []
+one [] h = absurd (omega arith)
+one (a ∷ []) h = refl
+one (a ∷ b ∷ xs) h = absurd (omega arith)
+
 four : (xs : List ℕ) → length xs ≡ 4 → xs ≡ getD xs 0 0 ∷ getD xs 1 0 ∷ getD xs 2 0 ∷ getD xs 3 0 ∷ []
 four [] h = absurd (omega arith)
 four (a ∷ []) h = absurd (omega arith)

@@ -10,6 +10,7 @@ pub enum Cause {
     Octets,
     Mode,
     Address,
+    Value,
 }
 
 impl Cause {
@@ -21,6 +22,7 @@ impl Cause {
             (6, 1) => Some(Cause::Octets),
             (5, 2) => Some(Cause::Mode),
             (2, 4) => Some(Cause::Address),
+            (3, 4) => Some(Cause::Value),
             _ => None,
         }
     }
@@ -32,6 +34,7 @@ pub impl fmt::Display for Cause as CauseDisplay {
             Cause::Octets => f.write_str("the request's octets"),
             Cause::Mode => f.write_str("not taken in this mode"),
             Cause::Address => f.write_str("an address that names no number"),
+            Cause::Value => f.write_str("a value that is not allowed"),
         }
     }
 }

@@ -1,14 +1,15 @@
-// What a unit's reply says: the numbers of an accepted request, or why it was refused.
+// What a unit's reply says: that the request was accepted, with its numbers if it has any, or why it was refused.
 ghost use mathlib.Core.Path.{_≡_};
 ghost use mathlib.Core.List.{List, _∷_};
 ghost use Prim.Native.Nat.{ℕ, _+_, _*_, _/_, _%_, _<_};
 ghost use lib.ListN.{length};
 ghost use Rattle.std.specs.Options.{Cases as BySome};
+ghost use Rattle.std.specs.Orderings.{Decides};
 ghost use Rattle.std.specs.Of.Vec.{vec-items};
 ghost use Rattle.std.specs.Vec.{made};
 ghost use Rattle.unit.specs.Gets.{twoOctets};
 ghost use Rattle.readings.specs.declared.Fault.{Fault};
-ghost use Rattle.readings.specs.Replies.{numbersReply, faultReply, Says};
+ghost use Rattle.readings.specs.Replies.{doneReply, numbersReply, faultReply, Says};
 use std::alloc::AllocError;
 use std::alloc::Global;
 
@@ -24,6 +25,8 @@ pub struct Fault {
 
 #[derive(Drop)]
 pub enum Reading {
+    // accepted, with nothing to tell
+    Done,
     Numbers(Vec<u16>),
     Refused(Fault),
     // no reply that a unit gives
@@ -36,6 +39,16 @@ fn number_of(high: u8, low: u8) -> u16
     ensures octets { λ r. ⌜ (r / 256 ≡ high) × (r % 256 ≡ low) ⌝ }
 {
     256 * high as u16 + low as u16
+}
+
+// Whether it is the reply of an accepted request that has nothing to tell.
+fn is_done(reply: &[u8]) -> bool
+    ensures { λ r. ⌜ Decides r (now (reply .entry) ≡ doneReply) ⌝ }
+{
+    match reply {
+        [0] => true,
+        _ => false,
+    }
 }
 
 // The octets of the numbers in the reply of an accepted request.
@@ -84,6 +97,9 @@ fn numbers_of(heap: Global, octets: &[u8]) -> Result<Vec<u16>, AllocError>
 pub fn read(heap: Global, reply: &[u8]) -> Result<Reading, AllocError>
     ensures { λ r. ⌜ made r (λ reading. Says (now (reply .entry)) reading) ⌝ }
 {
+    if is_done(reply) {
+        return Ok(Reading::Done);
+    }
     if let Some(values) = values_in(reply) {
         return Ok(Reading::Numbers(numbers_of(heap, values)?));
     }
