@@ -1,4 +1,6 @@
 // The account of a session at the bench: a line that begins `# ` is words, any other a request to the unit.
+#![tactic(auto)]
+
 use bench_unit::BenchUnit;
 use lines::buffer::LineBuffer;
 use lines::{LONGEST_LINE, spell};

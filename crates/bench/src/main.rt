@@ -1,4 +1,6 @@
 // A unit on the bench: each line of the input is a request, and each line of the output its reply.
+#![tactic(auto)]
+
 use bench_unit::BenchUnit;
 use lines::buffer::LineBuffer;
 use lines::{LONGEST_LINE, spell};

@@ -1,4 +1,6 @@
 // A unit with memories of its own, as a program holds it.
+#![tactic(auto)]
+
 ghost use Rattle.std.specs.Prelude.{◌≡◌, ◌≤◌, take};
 ghost use Rattle.memory.specs.Held.{word_cells};
 ghost use Rattle.tables.specs.Factory.{factory};

@@ -1,4 +1,6 @@
 // What get block and set block do on one memory.
+#![tactic(auto)]
+
 ghost use Rattle.block_requests.specs.Judged.{BlocksJudged, OneBlockReply};
 ghost use Rattle.block_requests.specs.RoundTrip.{BlocksGoOver, AllowedBlocksGoOver};
 

@@ -1,6 +1,8 @@
 // The unit as a cabinet's firmware calls it from C: a factory start and a request, each on memories of words and on
 // packed ones. Memory of any length and any mode is answered. The firmware owns all memory but the work lists, which a
 // request keeps on the stack.
+#![tactic(auto)]
+
 ghost use Rattle.std.specs.Prelude.{◌≡◌, length};
 ghost use Rattle.memory.specs.Held.{word_cells, word_highs, packed_cells, packed_spare};
 ghost use Rattle.unit.specs.Steps.{FactoryStarted, Requested, moment, lent};

@@ -1,5 +1,7 @@
 // The seven families of rows: what a row of each holds, and how it is read, staged, loaded and written. Each is
 // a unit struct that implements `Family`.
+#![tactic(auto)]
+
 ghost use Rattle.std.specs.Prelude.{◌≡◌};
 ghost use Rattle.families.specs.Families.{family_columns, EveryFamilyLawful};
 

@@ -1,4 +1,6 @@
 // The header of a block: which family it is of, which rows, and how many these are.
+#![tactic(auto)]
+
 ghost use Rattle.std.specs.Prelude.{◌≡◌, ℕ, ◌+◌, ◌*◌, ◌<◌, ◌≤◌, List, [], ◌∷◌, ◌++◌, length, MatchResult};
 ghost use Rattle.replies.specs.Replies.{Wrote};
 ghost use Rattle.values.specs.Reading.{Parsed};

@@ -1,3 +1,5 @@
+#![tactic(auto)]
+
 ghost use Rattle.std.specs.Prelude.{◌≡◌, ℕ, ◌/◌, ◌%◌, ◌<◌, ◌≤◌, [], ◌∷◌, ◌++◌, length, take, drop, IfSome, IfOk, string_bytes, MatchOption, OnOk, ◌≢◌};
 ghost use Rattle.lines.specs.Spelling.{digit_of, spelled, longest_line, Legible};
 

@@ -1,5 +1,7 @@
 // The parameter memory of a traffic signal controller, known only by its cells, numbered from 0. A cell's number alone
 // fixes its top: 65,535 for a wide cell (phase options, detector delay), 255 for any other, also past the table.
+#![tactic(auto)]
+
 ghost use Rattle.std.specs.Prelude.{◌≡◌, ℕ, ◌+◌, ◌-◌, ◌/◌, ◌%◌, ◌<◌, ◌≤◌, List, ◌∷◌, length, is_ok, slice_index};
 ghost use Rattle.memory.specs.Top.{wide, top_of};
 ghost use Rattle.memory.specs.Cells.{read_of, takes, written, Bounded};

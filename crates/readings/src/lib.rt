@@ -1,4 +1,6 @@
 // What a unit's reply says: that the request was accepted, with its numbers if it has any, or why it was refused.
+#![tactic(auto)]
+
 ghost use Rattle.std.specs.Prelude.{◌≡◌, ℕ, ◌+◌, ◌*◌, ◌/◌, ◌%◌, ◌<◌, List, ◌∷◌, length, IfOk, Decides, MatchOption, ◌≢◌};
 ghost use Rattle.transfers.specs.Gets.{two_octets};
 ghost use Rattle.readings.specs.declared.Fault.{Fault};

@@ -1,4 +1,6 @@
 // Replies in the making: octets put into reply memory one after another, taken back where the reply is not finished.
+#![tactic(auto)]
+
 ghost use Rattle.std.specs.Prelude.{◌≡◌, ℕ, ◌+◌, ◌-◌, ◌/◌, ◌%◌, ◌<◌, ◌≤◌, Bool, true, false, List, [], ◌∷◌, ◌++◌, length, take, drop, replicate, if◌then◌else◌};
 ghost use Rattle.replies.specs.Replies.{Wrote, reply_room, padded};
 

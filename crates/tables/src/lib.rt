@@ -1,4 +1,6 @@
 // The seven families of parameters: their columns, where each value stands, and which values are allowed.
+#![tactic(auto)]
+
 pub mod address;
 pub mod allowed;
 pub mod columns;

@@ -1,4 +1,6 @@
 // What gets and sets do on one memory, and why a call is turned away.
+#![tactic(auto)]
+
 pub mod get;
 pub mod items;
 pub mod refusal;

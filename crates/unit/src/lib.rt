@@ -1,4 +1,6 @@
 // The unit: a running memory, a draft memory and a mode; its starts and its requests.
+#![tactic(auto)]
+
 pub mod answer;
 pub mod operation;
 mod operations;

@@ -1,5 +1,7 @@
 // Numbers and phase lists as octets: what octets mean, item by item, what is wrong with them, and which octets a
 // value is written as.
+#![tactic(auto)]
+
 ghost use Rattle.std.specs.Prelude.{◌≡◌};
 ghost use Rattle.values.specs.Reading.{place_in};
 

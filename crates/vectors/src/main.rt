@@ -1,5 +1,7 @@
 // Requests to one table, a line each: a set or a set block edits it, any other request reads it. Each reply is a line,
 // and after a refusal one more says whether a cell changed.
+#![tactic(auto)]
+
 use lines::buffer::LineBuffer;
 use lines::{LONGEST_LINE, spell};
 use std::io;
