@@ -10,15 +10,15 @@ front n xs ys zs e h =
     let f : xs ≡ take n ys = e ∙ ap (λ k. take k ys) (sub-zero n) in
     take_at xs zs n (ap length f ∙ length-take-le n ys h) ∙ f
 
-pub returns-then-is-empty : goal.returns-then-is-empty
-returns-then-is-empty c = record { cases = nil_from_length _ (search rules); bound = lit≤ tt; same = refl }
+pub returns-then-is_empty : goal.returns-then-is_empty
+returns-then-is_empty c = record { cases = nil_from_length _ (search rules); bound = lit≤ tt; same = refl }
 
 pub returns : goal.returns
 returns c =
-    let v = c.in-ok-n.ensures in
-    let h : c.in-ok-n.n ≤ length c.read-pairs.new.octets = omega arith in
+    let v = c.in_ok-n.ensures in
+    let h : c.in_ok-n.n ≤ length c.read_pairs.new.octets = omega arith in
     record {
-      cases = v.1 ∙ ap spelled (sym (front _ _ _ _ c.copy-from-slice.ensures.after h));
+      cases = v.1 ∙ ap spelled (sym (front _ _ _ _ c.copy_from_slice.ensures.after h));
       bound = v.0;
       same = search (rules, overwrites);
     }

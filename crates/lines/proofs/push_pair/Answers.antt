@@ -6,4 +6,4 @@ two_more s t u e f a b x y p q v w m n =
     let j : u ≡ (s ++ x ∷ []) ++ y ∷ [] = cc in j ∙ append_assoc s (x ∷ []) (y ∷ [])
 
 pub returns : goal.returns
-returns c = two_more _ _ _ _ _ _ _ _ _ c.in-ok-push.ensures.bytes c.in-ok-push-2.ensures.bytes (c.push.ensures.ascii (search rules)) (c.push-2.ensures.ascii (search rules)) c.digit-of.ensures c.digit-of-2.ensures
+returns c = two_more _ _ _ _ _ _ _ _ _ c.in_ok-push.ensures.bytes c.in_ok-push-2.ensures.bytes (c.push.ensures.ascii (search rules)) (c.push-2.ensures.ascii (search rules)) c.digit_of.ensures c.digit_of-2.ensures

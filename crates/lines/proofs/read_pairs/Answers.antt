@@ -9,14 +9,14 @@ loop-n-init c = (begun _ _ c.requires, search rules)
 pub returns-in-empty : goal.returns-in-empty
 returns-in-empty c =
     let e : length c.loop-n.rest.now ≡ 2 = search rules in
-    let v = c.in-ok-octets.ensures in
+    let v = c.in_ok-octets.ensures in
     (omega arith, ended _ _ _ _ _ c.loop-n.invariant.0 (omega arith) e v.0 v.1)
 
-pub returns-in-default-after : goal.returns-in-default-after
-returns-in-default-after c = apart _ _ _ _ _ c.loop-n.invariant.0 (take_rest c.loop-n.rest.now 2) (search rules) (search rules)
+pub returns-in_default-after : goal.returns-in_default-after
+returns-in_default-after c = apart _ _ _ _ _ c.loop-n.invariant.0 (take_rest c.loop-n.rest.now 2) (search rules) (search rules)
 
 pub loop-n-preserved : goal.loop-n-preserved
 loop-n-preserved c =
-    let v = c.in-ok-octets.ensures in
+    let v = c.in_ok-octets.ensures in
     let r = c.loop-n.rest.now in
     (parted _ _ _ _ _ _ _ c.loop-n.invariant.0 (omega arith) (take_rest r 2) (search rules) v.0 v.1 (search rules) (take_rest (take (length r - 2) (drop 2 r)) 1), search rules)

@@ -5,5 +5,5 @@ use Rattle.readings.proofs.fault_in.Goals as goal
 pub returns : goal.returns
 returns c =
     let h : length c.args.reply.now ≡ 4 = search rules in
-    let p = c.number-of.ensures.octets in
-    (omega (arith, c.if-number-eq0.false), four_with_place c.args.reply.now c.number-of.result h p.0 p.1)
+    let p = c.number_of.ensures.octets in
+    (omega (arith, c.if-number-eq0.false), four_with_place c.args.reply.now c.number_of.result h p.0 p.1)

@@ -5,8 +5,8 @@ use Rattle.readings.proofs.numbers_of.Goals as goal
 
 pub loop-i-preserved : goal.loop-i-preserved
 loop-i-preserved c =
-    pair_more c.args.octets.now _ _ c.number-of.result c.loop-i.i (omega arith) c.in-ok-push.ensures.items
-    c.number-of.ensures.octets.0 c.number-of.ensures.octets.1 c.loop-i.invariant
+    pair_more c.args.octets.now _ _ c.number_of.result c.loop-i.i (omega arith) c.in_ok-push.ensures.items
+    c.number_of.ensures.octets.0 c.number_of.ensures.octets.1 c.loop-i.invariant
 
 pub returns : goal.returns
 returns c = c.loop-i.invariant ∙ take_all _ c.args.octets.now (omega (arith, c.requires))

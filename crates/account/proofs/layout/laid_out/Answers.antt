@@ -10,7 +10,7 @@ loop-i-preserved c short plain =
     let i = c.loop-i.i in
     let h : i < length line = c.loop-i-test.true in
     byte_more line _ _ i h (c.loop-i.invariant short plain)
-    (c.in-ok-push-byte.ensures (omega arith) (plain.printed i h) (λ last space. close_at line i plain (eqb-true _ _ last) space))
+    (c.in_ok-push_byte.ensures (omega arith) (plain.printed i h) (λ last space. close_at line i plain (eqb-true _ _ last) space))
 
 pub returns : goal.returns
 returns c short plain = c.loop-i.invariant short plain ∙ take_all c.loop-i.i c.args.line.now c.loop-i-test.false

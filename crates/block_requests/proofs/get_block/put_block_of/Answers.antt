@@ -8,41 +8,41 @@ use Rattle.blocks.specs.Rows.{rows_shown}
 use Rattle.blocks.specs.Blocks.{block_octets}
 use Rattle.block_requests.proofs.get_block.put_block_of.Goals as goal
 
-pub returns-in-err-spans : goal.returns-in-err-spans
-returns-in-err-spans g c =
+pub returns-in_err-spans : goal.returns-in_err-spans
+returns-in_err-spans g c =
     let p = err_from_is_err_and c.from-residual.result c.from-residual.ensures.1 in
     record {
       sound = c.requires.sound;
       same = refl;
       kept = refl;
-      outcome = rw (p.1, p.2) (c.in-err-spans.ensures, c.requires.start, refl);
+      outcome = rw (p.1, p.2) (c.in_err-spans.ensures, c.requires.start, refl);
     }
 
-pub write-block-requires : goal.write-block-requires
-write-block-requires g c =
+pub write_block-requires : goal.write_block-requires
+write_block-requires g c =
     let f = g.F.Family in
     record {
       sound = c.requires.sound;
       count = c.requires.count;
       bounded = c.requires.bounded;
-      table = spans_in_table f.family c.args.header.now 2 c.in-ok-spans.spans (length c.args.header.now) c.in-ok-spans.ensures.0;
+      table = spans_in_table f.family c.args.header.now 2 c.in_ok-spans.spans (length c.args.header.now) c.in_ok-spans.ensures.0;
       room = omega (arith, c.put.ensures.len, c.requires.start, c.requires.long);
     }
 
 pub returns : goal.returns
 returns g c =
     let f = g.F.Family in
-    let sp = c.in-ok-spans.spans in
+    let sp = c.in_ok-spans.spans in
     let os = block_octets f.family f.layout sp (rows_shown (g.R.ParameterMemory.cells c.args.running.now) f.family f.layout sp (rows_in sp)) in
-    let w = wrote_more c.put.ensures c.write-block.ensures.written in
+    let w = wrote_more c.put.ensures c.write_block.ensures.written in
     record {
-      sound = c.write-block.ensures.sound;
-      same = c.write-block.ensures.same;
-      kept = c.write-block.ensures.kept;
+      sound = c.write_block.ensures.sound;
+      same = c.write_block.ensures.same;
+      kept = c.write_block.ensures.kept;
       outcome = (
         os,
-        record { spans = sp; means = c.in-ok-spans.ensures; octets = refl },
-        subst (λ n. Wrote c.args.reply.now n c.write-block.new.reply c.write-block.new.position.length (0 ∷ os)) c.requires.start w,
-        omega (arith, c.write-block.ensures.size, c.put.ensures.len, c.requires.start),
+        record { spans = sp; means = c.in_ok-spans.ensures; octets = refl },
+        subst (λ n. Wrote c.args.reply.now n c.write_block.new.reply c.write_block.new.position.length (0 ∷ os)) c.requires.start w,
+        omega (arith, c.write_block.ensures.size, c.put.ensures.len, c.requires.start),
       );
     }

@@ -6,7 +6,7 @@ use Rattle.blocks.proofs.cells.load_list.Goals.{in-Some, in-None}
 
 pub returns : goal.returns
 returns g c =
-    let n : length c.load-octets.new.out ≡ c.match-read.len = search rules in
+    let n : length c.load_octets.new.out ≡ c.match-read.len = search rules in
     let cells = g.M.ParameterMemory.cells c.args.memory.now in
     let at = c.args.base + (c.args.column - 1) in
     let l : at < length cells = omega (arith, c.requires.within) in
@@ -16,9 +16,9 @@ returns g c =
       | in-None w ↦ absurd (read_never cells at l w.in-None.ensures.value)
     ] in
     record {
-      sound = c.load-octets.ensures.sound;
-      same = c.load-octets.ensures.same ∙ c.read.ensures.same;
-      kept = c.load-octets.ensures.kept ∙ c.read.ensures.kept;
-      loaded = list_loaded cells c.args.base c.args.column c.match-read.len c.load-octets.new.out len n
-          (λ i l. c.load-octets.ensures.loaded i l ∙ ap (λ cs. get_or cs (at + 1 + i) 0) c.read.ensures.same);
+      sound = c.load_octets.ensures.sound;
+      same = c.load_octets.ensures.same ∙ c.read.ensures.same;
+      kept = c.load_octets.ensures.kept ∙ c.read.ensures.kept;
+      loaded = list_loaded cells c.args.base c.args.column c.match-read.len c.load_octets.new.out len n
+          (λ i l. c.load_octets.ensures.loaded i l ∙ ap (λ cs. get_or cs (at + 1 + i) 0) c.read.ensures.same);
     }

@@ -3,7 +3,7 @@ use Rattle.memory.proofs.Facts.{read_is, read_never}
 use Rattle.blocks.specs.Layouts.{cells_at, number_slots}
 use Rattle.blocks.proofs.CellFacts.{number-loaded, numbers-loaded}
 use Rattle.blocks.proofs.cells.load_numbers.Goals as goal
-use Rattle.blocks.proofs.cells.load_numbers.Goals.{in-Some, in-default}
+use Rattle.blocks.proofs.cells.load_numbers.Goals.{in-Some, in_default}
 
 pub loop-i-preserved : goal.loop-i-preserved
 loop-i-preserved g c =
@@ -21,7 +21,7 @@ loop-i-preserved g c =
           ap (take (i + 1)) w.out-is
           ∙ number-loaded first c.args.base columns c.loop-i.out i _ c.loop-i-test.true m inv.0
           (read_is cells at w.in-Some.value l w.in-Some.ensures.value ∙ ap (λ cs. get_or cs at 0) inv.1)
-      | in-default w ↦ absurd (read_never cells at l w.in-default.ensures.value)
+      | in_default w ↦ absurd (read_never cells at l w.in_default.ensures.value)
     ] in
     (done, c.read.ensures.same ∙ inv.1, c.read.ensures.kept ∙ inv.2, c.read.ensures.sound)
 

@@ -2,7 +2,7 @@ use Rattle.std.proofs.Common.{◌≡◌, ◌+◌, ◌<◌, length, get_or, set, 
 use Rattle.std.proofs.lemmas.List.Edits.{fill_by_more}
 use Rattle.memory.proofs.Facts.{read_is, read_never}
 use Rattle.blocks.proofs.cells.load_octets.Goals as goal
-use Rattle.blocks.proofs.cells.load_octets.Goals.{in-Some, in-default}
+use Rattle.blocks.proofs.cells.load_octets.Goals.{in-Some, in_default}
 
 pub loop-i-preserved : goal.loop-i-preserved
 loop-i-preserved g c =
@@ -16,7 +16,7 @@ loop-i-preserved g c =
     let is : c.match-read.out ≡ set c.loop-i.out i (get_or first at 0) =
     elim c.match-read.branch [
       | in-Some w ↦ w.out-is ∙ ap (set c.loop-i.out i) (read_is cells at w.in-Some.value l w.in-Some.ensures.value ∙ ap (λ cs. get_or cs at 0) inv.1)
-      | in-default w ↦ absurd (read_never cells at l w.in-default.ensures.value)
+      | in_default w ↦ absurd (read_never cells at l w.in_default.ensures.value)
     ] in (
       λ k h. ap (λ out. get_or out k 0) is ∙ fill_by_more (λ k. get_or first (c.args.from + k) 0) c.loop-i.out i 0 m inv.0 k h,
       c.read.ensures.same ∙ inv.1,

@@ -5,11 +5,11 @@ use Rattle.headers.specs.Headers.{row_place}
 use Rattle.blocks.proofs.RowFacts.{second-within, row_stands, row_within}
 use Rattle.blocks.proofs.rows.first_cell.Goals as goal
 
-pub overflow-cast-second : goal.overflow-cast-second
-overflow-cast-second g c = let d = second-within g.F.Family.family c.args.spans c.args.row c.requires.table c.requires.row in search rules
+pub overflow_cast-second : goal.overflow_cast-second
+overflow_cast-second g c = let d = second-within g.F.Family.family c.args.spans c.args.row c.requires.table c.requires.row in search rules
 
-pub overflow-add-second : goal.overflow-add-second
-overflow-add-second g c =
+pub overflow_add-second : goal.overflow_add-second
+overflow_add-second g c =
     let d = second-within g.F.Family.family c.args.spans c.args.row c.requires.table c.requires.row in
     let t = c.requires.table.second-last in
     let few = (sizes g.F.Family.family).few_seconds in search rules

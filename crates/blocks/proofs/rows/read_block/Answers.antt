@@ -8,53 +8,53 @@ use Rattle.blocks.proofs.RowFacts.{few-rows}
 use Rattle.blocks.proofs.BlockFacts.{spans-missed, in_table, count-missed, rows-missed, rows-over, block-meant, fits-rows}
 use Rattle.blocks.proofs.rows.read_block.Goals as goal
 
-pub returns-in-err-spans : goal.returns-in-err-spans
-returns-in-err-spans g c =
+pub returns-in_err-spans : goal.returns-in_err-spans
+returns-in_err-spans g c =
     let f = g.F.Family in
     let p = err_from_is_err_and c.from-residual.result c.from-residual.ensures.1 in
-    rw (p.1, p.2) (at_first (spans-missed f.family f.layout c.args.block.now c.last-row-last.result c.last-row-last.ensures _ c.in-err-spans.ensures))
+    rw (p.1, p.2) (at_first (spans-missed f.family f.layout c.args.block.now c.last_row-last.result c.last_row-last.ensures _ c.in_err-spans.ensures))
 
-pub returns-in-err-from : goal.returns-in-err-from
-returns-in-err-from g c =
+pub returns-in_err-from : goal.returns-in_err-from
+returns-in_err-from g c =
     let f = g.F.Family in
-    let sp = c.in-ok-spans.spans in
-    let p = err_from_is_err_and c.from-residual-in-err-from.result c.from-residual-in-err-from.ensures.1 in
+    let sp = c.in_ok-spans.spans in
+    let p = err_from_is_err_and c.from-residual-in_err-from.result c.from-residual-in_err-from.ensures.1 in
     rw (p.1, p.2)
-    (count-missed f.family f.layout c.args.block.now c.last-row-last.result c.last-row-last.ensures sp.row sp.end c.in-ok-spans.ensures.1 c.rows.result c.rows.ensures _ c.in-err-from.ensures)
+    (count-missed f.family f.layout c.args.block.now c.last_row-last.result c.last_row-last.ensures sp.row sp.end c.in_ok-spans.ensures.1 c.rows.result c.rows.ensures _ c.in_err-from.ensures)
 
-pub read-rows-requires : goal.read-rows-requires
-read-rows-requires g c =
+pub read_rows-requires : goal.read_rows-requires
+read_rows-requires g c =
     let f = g.F.Family in
-    let sp = c.in-ok-spans.spans in
-    let t = in_table f.family f.layout c.args.block.now c.last-row-last.result c.last-row-last.ensures sp.row sp.end c.in-ok-spans.ensures.1 in
+    let sp = c.in_ok-spans.spans in
+    let t = in_table f.family f.layout c.args.block.now c.last_row-last.result c.last_row-last.ensures sp.row sp.end c.in_ok-spans.ensures.1 in
     record {
       table = t;
-      from = c.in-ok-from.ensures.0;
+      from = c.in_ok-from.ensures.0;
       room = omega (arith, c.requires.room, fits-rows f.family sp.row (length f.layout.carried) 1024 t g.met.F.Family.small.writes);
     }
 
-pub returns-in-err-end : goal.returns-in-err-end
-returns-in-err-end g c =
+pub returns-in_err-end : goal.returns-in_err-end
+returns-in_err-end g c =
     let f = g.F.Family in
-    let sp = c.in-ok-spans.spans in
-    let k = c.in-ok-from.ensures.1 in
-    let p = err_from_is_err_and c.from-residual-in-err-end.result c.from-residual-in-err-end.ensures.1 in
+    let sp = c.in_ok-spans.spans in
+    let k = c.in_ok-from.ensures.1 in
+    let p = err_from_is_err_and c.from-residual-in_err-end.result c.from-residual-in_err-end.ensures.1 in
     rw (p.1, p.2)
-    (rows-missed f.family f.layout c.args.block.now c.last-row-last.result c.last-row-last.ensures sp.row sp.end c.in-ok-spans.ensures.1 c.rows.result c.rows.ensures k.0 c.in-ok-from.from k.1 _ c.in-err-end.ensures)
+    (rows-missed f.family f.layout c.args.block.now c.last_row-last.result c.last_row-last.ensures sp.row sp.end c.in_ok-spans.ensures.1 c.rows.result c.rows.ensures k.0 c.in_ok-from.from k.1 _ c.in_err-end.ensures)
 
 pub returns-then-end-block : goal.returns-then-end-block
 returns-then-end-block g c =
     let f = g.F.Family in
-    let sp = c.in-ok-spans.spans in
-    let k = c.in-ok-from.ensures.1 in
-    rows-over f.family f.layout c.args.block.now c.last-row-last.result c.last-row-last.ensures sp.row sp.end c.in-ok-spans.ensures.1 c.rows.result c.rows.ensures k.0 c.in-ok-from.from k.1 _ _ c.in-ok-end.end c.in-ok-end.ensures.1 c.if-end-block.true
+    let sp = c.in_ok-spans.spans in
+    let k = c.in_ok-from.ensures.1 in
+    rows-over f.family f.layout c.args.block.now c.last_row-last.result c.last_row-last.ensures sp.row sp.end c.in_ok-spans.ensures.1 c.rows.result c.rows.ensures k.0 c.in_ok-from.from k.1 _ _ c.in_ok-end.end c.in_ok-end.ensures.1 c.if-end-block.true
 
 pub returns : goal.returns
 returns g c =
     let f = g.F.Family in
-    let sp = c.in-ok-spans.spans in
+    let sp = c.in_ok-spans.spans in
     let s = c.args.block.now in
-    let k = c.in-ok-from.ensures.1 in
-    let h = c.in-ok-end.ensures in
-    block-meant f.family f.layout s c.last-row-last.result c.last-row-last.ensures sp.row sp.end c.in-ok-spans.ensures.1 c.rows.result c.rows.ensures k.0 c.in-ok-from.from k.1 _ c.in-ok-end.end
-    (subst (λ b. Staged f.family f.layout sp.row (rows_in sp.row) s c.in-ok-from.from b (items c.read-rows.new.list) c.in-ok-end.end) c.requires.empty h.1) h.0 c.if-end-block.false
+    let k = c.in_ok-from.ensures.1 in
+    let h = c.in_ok-end.ensures in
+    block-meant f.family f.layout s c.last_row-last.result c.last_row-last.ensures sp.row sp.end c.in_ok-spans.ensures.1 c.rows.result c.rows.ensures k.0 c.in_ok-from.from k.1 _ c.in_ok-end.end
+    (subst (λ b. Staged f.family f.layout sp.row (rows_in sp.row) s c.in_ok-from.from b (items c.read_rows.new.list) c.in_ok-end.end) c.requires.empty h.1) h.0 c.if-end-block.false

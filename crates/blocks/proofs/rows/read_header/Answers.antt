@@ -9,19 +9,19 @@ pub returns-then-spans-block : goal.returns-then-spans-block
 returns-then-spans-block g c =
     let f = g.F.Family in
     let s = c.args.block.now in
-    let sp = c.in-ok-spans.spans in
-    over sp.row sp.end (spans-meant f.family f.layout s c.last-row-last.result c.last-row-last.ensures sp.row sp.end c.in-ok-spans.ensures.1) c.if-spans-block.true refl
+    let sp = c.in_ok-spans.spans in
+    over sp.row sp.end (spans-meant f.family f.layout s c.last_row-last.result c.last_row-last.ensures sp.row sp.end c.in_ok-spans.ensures.1) c.if-spans-block.true refl
 
-pub returns-in-err-spans : goal.returns-in-err-spans
-returns-in-err-spans g c =
+pub returns-in_err-spans : goal.returns-in_err-spans
+returns-in_err-spans g c =
     let f = g.F.Family in
     let p = err_from_is_err_and c.from-residual.result c.from-residual.ensures.1 in
-    rw (p.1, p.2) (in_part (spans-missed f.family f.layout c.args.block.now c.last-row-last.result c.last-row-last.ensures _ c.in-err-spans.ensures))
+    rw (p.1, p.2) (in_part (spans-missed f.family f.layout c.args.block.now c.last_row-last.result c.last_row-last.ensures _ c.in_err-spans.ensures))
 
 pub returns : goal.returns
 returns g c =
     let f = g.F.Family in
     let s = c.args.block.now in
-    let sp = c.in-ok-spans.spans in
-    let e : sp.end ≡ length s = omega (arith, c.if-spans-block.false, c.in-ok-spans.ensures.0) in
-    (subst (λ j. (spans_of f.family).Means s 2 sp.row j) e (spans-meant f.family f.layout s c.last-row-last.result c.last-row-last.ensures sp.row sp.end c.in-ok-spans.ensures.1), omega arith)
+    let sp = c.in_ok-spans.spans in
+    let e : sp.end ≡ length s = omega (arith, c.if-spans-block.false, c.in_ok-spans.ensures.0) in
+    (subst (λ j. (spans_of f.family).Means s 2 sp.row j) e (spans-meant f.family f.layout s c.last_row-last.result c.last_row-last.ensures sp.row sp.end c.in_ok-spans.ensures.1), omega arith)

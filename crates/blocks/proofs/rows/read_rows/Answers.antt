@@ -15,7 +15,7 @@ stage-requires g c =
     let inv = c.loop-row.invariant in
     let less : c.loop-row.row < rows_in c.args.spans = omega arith in
     let left = room_left (length (items c.args.list.now)) (rows_in c.args.spans) c.loop-row.row (length f.layout.carried) (room c.args.list.now) c.requires.room less in
-    record { base = omega (arith, c.first-cell.ensures.within); room = omega (arith, left, inv.1, inv.2) }
+    record { base = omega (arith, c.first_cell.ensures.within); room = omega (arith, left, inv.1, inv.2) }
 
 pub returns-in-Err : goal.returns-in-Err
 returns-in-Err g c =
@@ -30,14 +30,14 @@ loop-row-preserved g c =
     let inv = c.loop-row.invariant in
     let h = c.in-Ok.ensures in
     let k = c.loop-row.row in
-    let base = c.first-cell.result in
+    let base = c.first_cell.result in
     let met = g.met.F.Family.lawful in
     let ok = met.written.ok c.args.block.now c.loop-row.pos x.row x.end h.1 in
     let many : length (f.layout.values x.row) ≡ length f.layout.carried = each-of-length (Holds f.family) f.layout.carried (f.layout.values x.row) (met.held x.row ok) in
     let w = placed base f.layout.carried (f.layout.values x.row) in
     let n : length (items c.stage.new.list) ≡ length (items c.loop-row.list) + length w = ap length c.stage.ensures.pushed ∙ length-append (items c.loop-row.list) w in
     let p : items c.stage.new.list ≡ items c.loop-row.list ++ placed (cell_of (row_place f.family c.args.spans k)) f.layout.carried (f.layout.values x.row) =
-    c.stage.ensures.pushed ∙ ap (λ b. items c.loop-row.list ++ placed b f.layout.carried (f.layout.values x.row)) c.first-cell.ensures.cell in (
+    c.stage.ensures.pushed ∙ ap (λ b. items c.loop-row.list ++ placed b f.layout.carried (f.layout.values x.row)) c.first_cell.ensures.cell in (
       h.0,
       c.stage.ensures.room ∙ inv.1,
       omega (arith, n, placed-length base f.layout.carried (f.layout.values x.row) many, inv.2, one_more_of k (length f.layout.carried)),

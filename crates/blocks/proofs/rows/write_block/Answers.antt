@@ -11,22 +11,22 @@ use Rattle.blocks.proofs.RowFacts.{few-rows, few_in_all}
 use Rattle.blocks.proofs.BlockFacts.{fits-rows}
 use Rattle.blocks.proofs.rows.write_block.Goals as goal
 
-pub put-count-requires : goal.put-count-requires
-put-count-requires g c =
+pub put_count-requires : goal.put_count-requires
+put_count-requires g c =
     record {
       rows = omega (arith, c.rows.ensures, few-rows g.F.Family.family c.args.spans c.requires.table, few_in_all g.F.Family.family);
-      room = omega (arith, c.requires.room, c.put.ensures.len, c.put-2.ensures.len, c.put-spans.ensures.len, spans-short c.last-row.result.second c.args.spans);
+      room = omega (arith, c.requires.room, c.put.ensures.len, c.put-2.ensures.len, c.put_spans.ensures.len, spans-short c.last_row.result.second c.args.spans);
     }
 
-pub write-rows-requires : goal.write-rows-requires
-write-rows-requires g c =
+pub write_rows-requires : goal.write_rows-requires
+write_rows-requires g c =
     let f = g.F.Family in
     record {
       sound = c.requires.sound;
       count = c.requires.count;
       bounded = c.requires.bounded;
       table = c.requires.table;
-      room = omega (arith, c.requires.room, c.put.ensures.len, c.put-2.ensures.len, c.put-spans.ensures.len, spans-short c.last-row.result.second c.args.spans, c.put-count.ensures.len, count-short c.rows.result, fits-rows f.family c.args.spans f.layout.most 1014 c.requires.table g.met.F.Family.small.reply);
+      room = omega (arith, c.requires.room, c.put.ensures.len, c.put-2.ensures.len, c.put_spans.ensures.len, spans-short c.last_row.result.second c.args.spans, c.put_count.ensures.len, count-short c.rows.result, fits-rows f.family c.args.spans f.layout.most 1014 c.requires.table g.met.F.Family.small.reply);
     }
 
 pub returns : goal.returns
@@ -34,16 +34,16 @@ returns g c =
     let f = g.F.Family in
     let sp = c.args.spans in
     let shown = rows_octets f.layout.octets (rows_in sp) (rows_shown (g.M.ParameterMemory.cells c.args.memory.now) f.family f.layout sp (rows_in sp)) in
-    let id : c.data-id.result ≡ (shape_of f.family).id = c.data-id.ensures in
-    let second : c.last-row.result.second ≡ (shape_of f.family).last_second = ap (λ (p : Place). p.second) c.last-row.ensures in
+    let id : c.data_id.result ≡ (shape_of f.family).id = c.data_id.ensures in
+    let second : c.last_row.result.second ≡ (shape_of f.family).last_second = ap (λ (p : Place). p.second) c.last_row.ensures in
     let front = wrote_more c.put.ensures c.put-2.ensures in
-    let w = wrote_more front (wrote_more c.put-spans.ensures (wrote_more c.put-count.ensures c.write-rows.ensures.written)) in
+    let w = wrote_more front (wrote_more c.put_spans.ensures (wrote_more c.put_count.ensures c.write_rows.ensures.written)) in
     record {
-      sound = c.write-rows.ensures.sound;
-      same = c.write-rows.ensures.same;
-      kept = c.write-rows.ensures.kept;
+      sound = c.write_rows.ensures.sound;
+      same = c.write_rows.ensures.same;
+      kept = c.write_rows.ensures.kept;
       written =
-          subst (Wrote c.args.reply.now c.args.position.now.length c.write-rows.new.reply c.write-rows.new.position.length)
+          subst (Wrote c.args.reply.now c.args.position.now.length c.write_rows.new.reply c.write_rows.new.position.length)
           (λ j. 0 ∷ id j ∷ (spans_octets (second j) sp ++ (count_octets (c.rows.ensures j) ++ shown))) w;
-      size = omega (arith, c.write-rows.ensures.size, c.put.ensures.len, c.put-2.ensures.len, c.put-spans.ensures.len, spans-short c.last-row.result.second sp, c.put-count.ensures.len, count-short c.rows.result, fits-rows f.family sp f.layout.most 1014 c.requires.table g.met.F.Family.small.reply);
+      size = omega (arith, c.write_rows.ensures.size, c.put.ensures.len, c.put-2.ensures.len, c.put_spans.ensures.len, spans-short c.last_row.result.second sp, c.put_count.ensures.len, count-short c.rows.result, fits-rows f.family sp f.layout.most 1014 c.requires.table g.met.F.Family.small.reply);
     }

@@ -20,7 +20,7 @@ emit-requires g c =
     let less : k < rows_in sp = omega arith in
     let left = room_left c.args.position.now.length (rows_in sp) k f.layout.most (length c.args.reply.now) c.requires.room less in
     let shown : c.load-shown.result ≡ row_in cells f.family f.layout sp k =
-    c.load-shown.ensures.loaded ∙ (λ j. f.layout.row_of (cells_at (inv.2 j) (c.first-cell.ensures.cell j) f.layout.carried)) in
+    c.load-shown.ensures.loaded ∙ (λ j. f.layout.row_of (cells_at (inv.2 j) (c.first_cell.ensures.cell j) f.layout.carried)) in
     let met = g.met.F.Family.lawful in
     record {
       fits = subst f.layout.fits (sym shown) (met.loaded _ (cells-held f.family _ _ (row_stands f.family sp k c.requires.table less) cells c.requires.bounded f.layout.carried met.stand));
@@ -35,7 +35,7 @@ loop-row-preserved g c =
     let sp = c.args.spans in
     let cells = g.M.ParameterMemory.cells c.args.memory.now in
     let shown : c.load-shown.result ≡ row_in cells f.family f.layout sp k =
-    c.load-shown.ensures.loaded ∙ (λ j. f.layout.row_of (cells_at (inv.2 j) (c.first-cell.ensures.cell j) f.layout.carried)) in
+    c.load-shown.ensures.loaded ∙ (λ j. f.layout.row_of (cells_at (inv.2 j) (c.first_cell.ensures.cell j) f.layout.carried)) in
     let less : k < rows_in sp = omega arith in
     let met = g.met.F.Family.lawful in
     let fit = subst f.layout.fits (sym shown) (met.loaded _ (cells-held f.family _ _ (row_stands f.family sp k c.requires.table less) cells c.requires.bounded f.layout.carried met.stand)) in

@@ -12,25 +12,25 @@ returns-then-at-self c =
       kept = refl;
     }
 
-pub returns-then-is-wide : goal.returns-then-is-wide
-returns-then-is-wide c =
+pub returns-then-is_wide : goal.returns-then-is_wide
+returns-then-is_wide c =
     record {
       sound = tt;
       value =
           read_some _ _ _ (omega (arith, length-word_cells c.args.self.now.words.now))
-          (get_or-word_cells _ _ (omega arith) ∙ mod_wide _ _ (sym c.if-is-wide.ensures) (omega arith));
+          (get_or-word_cells _ _ (omega arith) ∙ mod_wide _ _ (sym c.if-is_wide.ensures) (omega arith));
       bounded = bounded_word_cells _ _;
       same = refl;
       kept = refl;
     }
 
-pub returns-else-is-wide : goal.returns-else-is-wide
-returns-else-is-wide c =
+pub returns-else-is_wide : goal.returns-else-is_wide
+returns-else-is_wide c =
     record {
       sound = tt;
       value =
           read_some _ _ _ (omega (arith, length-word_cells c.args.self.now.words.now))
-          (get_or-word_cells _ _ (omega arith) ∙ mod_narrow _ _ (sym c.if-is-wide.ensures));
+          (get_or-word_cells _ _ (omega arith) ∙ mod_narrow _ _ (sym c.if-is_wide.ensures));
       bounded = bounded_word_cells _ _;
       same = refl;
       kept = refl;

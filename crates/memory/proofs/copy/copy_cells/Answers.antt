@@ -2,7 +2,7 @@ use Rattle.std.proofs.Common.{sym, ap, ◌∙◌, subst, arith}
 use Rattle.std.proofs.lemmas.Bool.{eq-eqb}
 use Rattle.memory.proofs.Compared.{copy_step, copy_never, copy_end}
 use Rattle.memory.proofs.copy.copy_cells.Goals as goal
-use Rattle.memory.proofs.copy.copy_cells.Goals.{in-Some, in-default}
+use Rattle.memory.proofs.copy.copy_cells.Goals.{in-Some, in_default}
 
 pub loop-at-preserved : goal.loop-at-preserved
 loop-at-preserved g c =
@@ -23,7 +23,7 @@ loop-at-preserved g c =
             c.read.ensures.sound,
             subst g.B.ParameterMemory.sound (sym w.to-is) w.write.ensures.sound,
           )
-      | in-default w ↦ absurd (copy_never from _ at inv.2 (omega arith) w.in-default.ensures.value)
+      | in_default w ↦ absurd (copy_never from _ at inv.2 (omega arith) w.in_default.ensures.value)
     ]
 
 pub returns : goal.returns
@@ -33,6 +33,6 @@ returns g c =
       test = sym (eq-eqb _ _ (omega arith));
       copied = copy_end _ _ c.loop-at.at (omega arith) c.loop-at.invariant.1 c.loop-at.invariant.0;
       same = c.loop-at.invariant.2;
-      from-kept = c.loop-at.invariant.3;
-      to-kept = c.loop-at.invariant.4;
+      from_kept = c.loop-at.invariant.3;
+      to_kept = c.loop-at.invariant.4;
     }

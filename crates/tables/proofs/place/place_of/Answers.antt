@@ -2,22 +2,22 @@ use Rattle.std.proofs.Common.{arith}
 use Rattle.tables.proofs.PlaceFacts.{row_below, at_below, cell_made}
 use Rattle.tables.proofs.place.place_of.Goals as goal
 
-pub indices-of-first-requires : goal.indices-of-first-requires
-indices-of-first-requires c = row_below _ _ _ c.shape-shape.ensures c.in-ok-family.ensures.0 c.in-ok-family.ensures.1
+pub indices_of-first-requires : goal.indices_of-first-requires
+indices_of-first-requires c = row_below _ _ _ c.shape-shape.ensures c.in_ok-family.ensures.0 c.in_ok-family.ensures.1
 
-pub in-row-column-requires : goal.in-row-column-requires
-in-row-column-requires c = at_below _ _ _ c.shape-shape.ensures
+pub in_row-column-requires : goal.in_row-column-requires
+in_row-column-requires c = at_below _ _ _ c.shape-shape.ensures
 
 pub returns : goal.returns
 returns c = (
   record {
-    first-least = c.indices-of-first.ensures.first.0;
-    first-last = c.indices-of-first.ensures.first.1;
-    second-least = c.indices-of-first.ensures.second.0;
-    second-last = c.indices-of-first.ensures.second.1;
-    column-least = c.in-row-column.ensures.column.0;
-    column-last = c.in-row-column.ensures.column.1;
-    octet-within = c.in-row-column.ensures.octet;
+    first-least = c.indices_of-first.ensures.first.0;
+    first-last = c.indices_of-first.ensures.first.1;
+    second-least = c.indices_of-first.ensures.second.0;
+    second-last = c.indices_of-first.ensures.second.1;
+    column-least = c.in_row-column.ensures.column.0;
+    column-last = c.in_row-column.ensures.column.1;
+    octet-within = c.in_row-column.ensures.octet;
   },
-  cell_made _ _ _ c.shape-shape.ensures c.in-ok-family.ensures.0 c.indices-of-first.ensures.row c.in-row-column.ensures.at,
+  cell_made _ _ _ c.shape-shape.ensures c.in_ok-family.ensures.0 c.indices_of-first.ensures.row c.in_row-column.ensures.at,
 )

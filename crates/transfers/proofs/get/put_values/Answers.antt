@@ -7,22 +7,22 @@ use Rattle.transfers.specs.Gets.{Value, Nameless, two_octets}
 use Rattle.transfers.proofs.GetFacts.{values_more, octets_more, first-nameless, item_count}
 use Rattle.transfers.proofs.get.put_values.Goals as goal
 
-pub returns-in-default : goal.returns-in-default
-returns-in-default g c =
+pub returns-in_default : goal.returns-in_default
+returns-in_default g c =
     let inv = c.loop-item.invariant in
     let body = c.args.body.now in
     let item = c.loop-item.item in
-    let a : c.address-at.result ≡ address_at body item = c.address-at.ensures body c.requires.items in
+    let a : c.address_at.result ≡ address_at body item = c.address_at.ensures body c.requires.items in
     let n = item_count body c.args.items.now c.requires.whole c.requires.items in
     let h : item < count_in body = omega arith in
     let most : count_in body ≤ 32 = c.requires.whole.counted.most in
     record {
-      sound = c.value-at.ensures.sound;
-      same = c.value-at.ensures.same ∙ inv.2;
-      kept = c.value-at.ensures.kept ∙ inv.3;
+      sound = c.value_at.ensures.sound;
+      same = c.value_at.ensures.same ∙ inv.2;
+      kept = c.value_at.ensures.kept ∙ inv.3;
       outcome = (
         item,
-        first-nameless _ body _ (count_in body) item h inv.0.1 (subst Nameless a c.in-default.ensures.value),
+        first-nameless _ body _ (count_in body) item h inv.0.1 (subst Nameless a c.in_default.ensures.value),
         ap NoNumber (omega arith),
       );
       later = wrote_later (omega arith) inv.0.2;
@@ -34,19 +34,19 @@ loop-item-preserved g c =
     let body = c.args.body.now in
     let item = c.loop-item.item in
     let cells = g.R.ParameterMemory.cells c.args.running.now in
-    let a : c.address-at.result ≡ address_at body item = c.address-at.ensures body c.requires.items in
+    let a : c.address_at.result ≡ address_at body item = c.address_at.ensures body c.requires.items in
     let v : Value cells (address_at body item) c.in-Some.value =
-    subst (λ x. Value cells x c.in-Some.value) a (subst (λ x. Value x c.address-at.result c.in-Some.value) inv.2 c.in-Some.ensures.value) in
-    let w = wrote_more inv.0.2 c.put-number.ensures in (
+    subst (λ x. Value cells x c.in-Some.value) a (subst (λ x. Value x c.address_at.result c.in-Some.value) inv.2 c.in-Some.ensures.value) in
+    let w = wrote_more inv.0.2 c.put_number.ensures in (
       (
         inv.0.0 ++ c.in-Some.value ∷ [],
         values_more cells body inv.0.0 item c.in-Some.value inv.0.1 v,
-        subst (Wrote c.args.reply.now 2 c.put-number.new.reply c.put-number.new.position.length) (sym (octets_more inv.0.0 c.in-Some.value)) w,
+        subst (Wrote c.args.reply.now 2 c.put_number.new.reply c.put_number.new.position.length) (sym (octets_more inv.0.0 c.in-Some.value)) w,
       ),
-      omega (arith, c.put-number.ensures.len),
-      c.value-at.ensures.same ∙ inv.2,
-      c.value-at.ensures.kept ∙ inv.3,
-      c.value-at.ensures.sound,
+      omega (arith, c.put_number.ensures.len),
+      c.value_at.ensures.same ∙ inv.2,
+      c.value_at.ensures.kept ∙ inv.3,
+      c.value_at.ensures.sound,
     )
 
 pub returns : goal.returns

@@ -10,8 +10,8 @@ returns g c =
     let w = wrote_zero c.requires.start c.put.ensures in
     record {
       sound = c.requires.sound;
-      running-kept = refl;
-      draft-kept = refl;
+      running_kept = refl;
+      draft_kept = refl;
       outcome = (0 ∷ [], abandoned (nil_from_length c.args.body.now none, refl) refl refl c.in-Some.ensures, w, omega arith);
       later = wrote_later (omega (arith, w.len)) w;
     }

@@ -3,14 +3,14 @@ use Rattle.std.proofs.lemmas.Result.{err_from_is_err_and}
 use Rattle.unit.proofs.RequestFacts.{refused_get, accepted_get}
 use Rattle.unit.proofs.operations.get_request.Goals as goal
 
-pub returns-in-err-get : goal.returns-in-err-get
-returns-in-err-get g c =
+pub returns-in_err-get : goal.returns-in_err-get
+returns-in_err-get g c =
     let p = err_from_is_err_and c.from-residual.result c.from-residual.ensures.1 in
-    let o = c.in-err-get.ensures.outcome in
+    let o = c.in_err-get.ensures.outcome in
     record {
       sound = (c.get.ensures.sound, c.requires.sound.1);
-      running-kept = c.get.ensures.kept;
-      draft-kept = refl;
+      running_kept = c.get.ensures.kept;
+      draft_kept = refl;
       outcome =
           rw (p.1, p.2) (
             record { got = o.0; same = record { running = c.get.ensures.same; draft = refl; mode = refl } },
@@ -22,11 +22,11 @@ returns-in-err-get g c =
 
 pub returns : goal.returns
 returns g c =
-    let o = c.in-ok-get.ensures.outcome in
+    let o = c.in_ok-get.ensures.outcome in
     record {
       sound = (c.get.ensures.sound, c.requires.sound.1);
-      running-kept = c.get.ensures.kept;
-      draft-kept = refl;
+      running_kept = c.get.ensures.kept;
+      draft_kept = refl;
       outcome = (
         o.0,
         record { got = o.1; same = record { running = c.get.ensures.same; draft = refl; mode = refl } },

@@ -11,11 +11,11 @@ returns-in-Ok g c =
     let o = c.in-Ok.ensures.opened in
     record {
       sound = c.open.ensures.sound;
-      running-kept = c.open.ensures.running-kept;
-      draft-kept = c.open.ensures.draft-kept;
+      running_kept = c.open.ensures.running_kept;
+      draft_kept = c.open.ensures.draft_kept;
       outcome = (
         0 ∷ [],
-        opened (nil_from_length c.args.body.now none, refl) c.open.ensures.running o.draft (c.into-mode.ensures ∙ o.mode),
+        opened (nil_from_length c.args.body.now none, refl) c.open.ensures.running o.draft (c.into_mode.ensures ∙ o.mode),
         w,
         omega arith,
       );

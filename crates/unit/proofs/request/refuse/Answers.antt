@@ -6,7 +6,7 @@ use Rattle.unit.proofs.request.refuse.Goals as goal
 
 pub returns : goal.returns
 returns c =
-    let w = wrote_more (wrote_more c.put.ensures c.put-2.ensures) c.put-number.ensures in
+    let w = wrote_more (wrote_more c.put.ensures c.put-2.ensures) c.put_number.ensures in
     let octets : (c.number.result ∷ c.layer.result ∷ c.place.result / 256 ∷ c.place.result % 256 ∷ []) ≡ refusal_octets c.args.refusal =
     ap (λ n. n ∷ c.layer.result ∷ c.place.result / 256 ∷ c.place.result % 256 ∷ []) c.number.ensures
     ∙ (ap (λ n. number_of c.args.refusal ∷ n ∷ c.place.result / 256 ∷ c.place.result % 256 ∷ []) c.layer.ensures

@@ -21,8 +21,8 @@ returns-then-count-ne-CELLS g c =
     ] in
     record {
       sound = c.requires.sound;
-      running-kept = refl;
-      draft-kept = refl;
+      running_kept = refl;
+      draft_kept = refl;
       requested =
           record {
             outcome = refused MemoryCount;
@@ -35,19 +35,19 @@ returns-then-count-ne-CELLS g c =
       lists = λ _. (refl, refl);
     }
 
-pub returns-then-reply-lt-REPLY-OCTETS : goal.returns-then-reply-lt-REPLY-OCTETS
-returns-then-reply-lt-REPLY-OCTETS g c =
+pub returns-then-reply-lt-REPLY_OCTETS : goal.returns-then-reply-lt-REPLY_OCTETS
+returns-then-reply-lt-REPLY_OCTETS g c =
     let cramped : Roomy (lent (length c.args.reply.now) (length c.args.writes.now) (length c.args.findings.now)) → ⊥ =
-    λ r. omega (arith, r.reply, r.writes, r.findings, c.then-reply-lt-REPLY-OCTETS.either) in
+    λ r. omega (arith, r.reply, r.writes, r.findings, c.then-reply-lt-REPLY_OCTETS.either) in
     record {
       sound = c.requires.sound;
-      running-kept = refl;
-      draft-kept = refl;
+      running_kept = refl;
+      draft_kept = refl;
       requested =
           record {
             outcome = refused Room;
             step = no_room (record { running = sym c.count.ensures.value ∙ omega arith; draft = sym c.count-else-count-ne-CELLS.ensures.value ∙ omega arith }) cramped refl (record { running = refl; draft = refl; mode = refl });
-            number = c.number-then-reply-lt-REPLY-OCTETS.ensures;
+            number = c.number-then-reply-lt-REPLY_OCTETS.ensures;
             length = refl;
             memory = refl;
             mode = refl;
@@ -59,9 +59,9 @@ pub returns-in-Ok : goal.returns-in-Ok
 returns-in-Ok g c =
     let o = c.in-Ok.ensures.outcome in
     record {
-      sound = c.answer-octets.ensures.sound;
-      running-kept = c.answer-octets.ensures.running-kept;
-      draft-kept = c.answer-octets.ensures.draft-kept;
+      sound = c.answer_octets.ensures.sound;
+      running_kept = c.answer_octets.ensures.running_kept;
+      draft_kept = c.answer_octets.ensures.draft_kept;
       requested =
           record {
             outcome = accepted o.0;
@@ -83,9 +83,9 @@ returns-in-Err g c =
     let o = c.in-Err.ensures.outcome in
     let e = c.in-Err.refusal in
     record {
-      sound = c.answer-octets.ensures.sound;
-      running-kept = c.answer-octets.ensures.running-kept;
-      draft-kept = c.answer-octets.ensures.draft-kept;
+      sound = c.answer_octets.ensures.sound;
+      running_kept = c.answer_octets.ensures.running_kept;
+      draft_kept = c.answer_octets.ensures.draft_kept;
       requested =
           record {
             outcome = refused e;
@@ -94,12 +94,12 @@ returns-in-Err g c =
                 (record { running = sym c.count.ensures.value ∙ omega arith; draft = sym c.count-else-count-ne-CELLS.ensures.value ∙ omega arith })
                 (record { reply = omega arith; writes = omega arith; findings = omega arith })
                 (subst
-                (λ m. Answered (moment (g.R.ParameterMemory.cells c.args.running.now) (g.D.ParameterMemory.cells c.args.draft.now) c.args.mode) c.args.octets.now (refused e) (moment (g.R.ParameterMemory.cells c.answer-octets.new.running) (g.D.ParameterMemory.cells c.answer-octets.new.draft) m))
+                (λ m. Answered (moment (g.R.ParameterMemory.cells c.args.running.now) (g.D.ParameterMemory.cells c.args.draft.now) c.args.mode) c.args.octets.now (refused e) (moment (g.R.ParameterMemory.cells c.answer_octets.new.running) (g.D.ParameterMemory.cells c.answer_octets.new.draft) m))
                 (sym c.refuse.ensures.mode) o.0);
             number = c.refuse.ensures.number;
             length = c.refuse.ensures.length ∙ sym (ap length (cond-false (unanswered e) [] (refusal_octets e) o.2));
             memory =
-                padded-same (refusal_octets e) c.args.reply.now c.answer-octets.new.reply _ c.refuse.ensures.memory c.answer-octets.ensures.later
+                padded-same (refusal_octets e) c.args.reply.now c.answer_octets.new.reply _ c.refuse.ensures.memory c.answer_octets.ensures.later
                 ∙ sym (cond-false (unanswered e) c.args.reply.now (padded (refusal_octets e) c.args.reply.now) o.2);
             mode = refl;
           };

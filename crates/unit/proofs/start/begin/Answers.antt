@@ -8,7 +8,7 @@ loop-cell-preserved g c =
     let inv = c.loop-cell.invariant in
     let cells = g.R.ParameterMemory.cells c.loop-cell.running in
     let s = factory-step cells c.loop-cell.cell (omega arith) inv.1 inv.0 in
-    let w = c.write.ensures.after ∙ ap (written cells c.loop-cell.cell) c.factory-value.ensures in (
+    let w = c.write.ensures.after ∙ ap (written cells c.loop-cell.cell) c.factory_value.ensures in (
       ap (take (c.loop-cell.cell + 1)) w ∙ s.0,
       ap length w ∙ s.1,
       c.write.ensures.kept ∙ inv.2,

@@ -10,8 +10,8 @@ use Rattle.values.proofs.numbers.put_values.Goals as goal
 pub bounds-values-i : goal.bounds-values-i
 bounds-values-i c = omega (arith, each-of-length Fits c.args.columns.now c.args.values.now c.requires.fits)
 
-pub put-value-requires : goal.put-value-requires
-put-value-requires c =
+pub put_value-requires : goal.put_value-requires
+put_value-requires c =
     let cs = c.args.columns.now in
     let i = c.loop-i.i in
     record {
@@ -21,7 +21,7 @@ put-value-requires c =
 
 pub loop-i-preserved : goal.loop-i-preserved
 loop-i-preserved c =
-    put_more c.args.columns.now c.args.values.now c.loop-i.i c.loop-i-test.true (each-of-length Fits c.args.columns.now c.args.values.now c.requires.fits) c.loop-i.invariant c.put-value.ensures
+    put_more c.args.columns.now c.args.values.now c.loop-i.i c.loop-i-test.true (each-of-length Fits c.args.columns.now c.args.values.now c.requires.fits) c.loop-i.invariant c.put_value.ensures
 
 pub returns : goal.returns
 returns c =

@@ -10,13 +10,13 @@ use Rattle.values.proofs.Table.{numbers-short}
 use Rattle.families.specs.Families.{family_columns}
 use Rattle.families.proofs.phase.PhasesFamily.emit.Goals as goal
 
-pub put-list-requires : goal.put-list-requires
-put-list-requires c =
+pub put_list-requires : goal.put_list-requires
+put_list-requires c =
     let row = c.args.row.now in
-    let e = c.columns-of-columns.ensures in
+    let e = c.columns_of-columns.ensures in
     let short = subst (λ cs. length (each_octets octets (take 21 cs) row.numbers) ≤ 22) (sym e) (numbers-short (take 21 (family_columns Phase)) row.numbers) in
     record {
-      room = omega (arith, c.put-values.ensures.len, short, c.requires.room);
+      room = omega (arith, c.put_values.ensures.len, short, c.requires.room);
       narrow = ap (λ cs. size (get_or cs 21 none)) e;
       fits = subst (λ cs. ListFits (get_or cs 21 none) row.list) (sym e) c.requires.fits.1;
     }
@@ -24,7 +24,7 @@ put-list-requires c =
 pub returns : goal.returns
 returns c =
     let row = c.args.row.now in
-    subst (λ cs. Wrote c.args.reply.now c.args.position.now.length c.put-list.new.reply c.put-list.new.position.length
+    subst (λ cs. Wrote c.args.reply.now c.args.position.now.length c.put_list.new.reply c.put_list.new.position.length
     (each_octets octets (take 21 cs) row.numbers ++ list_octets (get_or cs 21 none) row.list))
-    c.columns-of-columns.ensures
-    (wrote_more c.put-values.ensures c.put-list.ensures)
+    c.columns_of-columns.ensures
+    (wrote_more c.put_values.ensures c.put_list.ensures)

@@ -4,8 +4,8 @@ use Rattle.families.proofs.phase.PhasesFamily.load.Goals as goal
 
 pub returns : goal.returns
 returns g c =
-    let numbers = c.load-numbers.ensures in
-    let list = c.load-list-list.ensures in
+    let numbers = c.load_numbers.ensures in
+    let list = c.load_list-list.ensures in
     record {
       sound = list.sound;
       same = list.same ∙ numbers.same;

@@ -5,8 +5,8 @@ use Rattle.values.specs.Numbers.{numbers}
 use Rattle.values.specs.Lists.{phases}
 use Rattle.families.proofs.phase.PhasesFamily.parse.Goals as goal
 
-pub returns-in-Err-read-list : goal.returns-in-Err-read-list
-returns-in-Err-read-list c =
-    subst (λ cs. (then (numbers (take 21 cs)) (λ u. phases (get_or cs 21 none))).Faults c.args.block.now c.args.from c.in-Err-read-list.fault)
-    c.columns-of-columns.ensures
-    (at_second c.read-numbers.new.out c.in-Ok.mid c.in-Ok.ensures.1 c.in-Err-read-list.ensures)
+pub returns-in-Err-read_list : goal.returns-in-Err-read_list
+returns-in-Err-read_list c =
+    subst (λ cs. (then (numbers (take 21 cs)) (λ u. phases (get_or cs 21 none))).Faults c.args.block.now c.args.from c.in-Err-read_list.fault)
+    c.columns_of-columns.ensures
+    (at_second c.read_numbers.new.out c.in-Ok.mid c.in-Ok.ensures.1 c.in-Err-read_list.ensures)

@@ -26,12 +26,12 @@ module _ (base : ℕ) (xs : List Slot) (vs : List ℕ) (before mid : List Staged
       ∙ append_assoc before (placed base xs vs) (placed base ys ws)
       ∙ ap (λ t. before ++ t) (sym (placed_append base xs ys vs ws n))
 
-pub stage-list-requires : goal.stage-list-requires
-stage-list-requires c =
+pub stage_list-requires : goal.stage_list-requires
+stage_list-requires c =
     let numbers = c.args.row.now.numbers in
     let n : length numbers ≡ 21 = search rules in
-    let more = staged-length c.args.base (number_slots (numbers_in Phase)) numbers (items c.args.list.now) (items c.stage-numbers.new.list) n c.stage-numbers.ensures.pushed in
-    record { room = omega (arith, more, c.stage-numbers.ensures.room, c.requires.room); base = c.requires.base; column = lit≤ tt }
+    let more = staged-length c.args.base (number_slots (numbers_in Phase)) numbers (items c.args.list.now) (items c.stage_numbers.new.list) n c.stage_numbers.ensures.pushed in
+    record { room = omega (arith, more, c.stage_numbers.ensures.room, c.requires.room); base = c.requires.base; column = lit≤ tt }
 
 pub returns : goal.returns
 returns c =
@@ -39,7 +39,7 @@ returns c =
     let n : length row.numbers ≡ 21 = search rules in
     record {
       pushed =
-          staged-both c.args.base (number_slots (numbers_in Phase)) row.numbers (items c.args.list.now) (items c.stage-numbers.new.list) n c.stage-numbers.ensures.pushed
-          (list_slots 22) (row.list.len ∷ row.list.phases) (items c.stage-list.new.list) c.stage-list.ensures.pushed;
-      room = c.stage-list.ensures.room ∙ c.stage-numbers.ensures.room;
+          staged-both c.args.base (number_slots (numbers_in Phase)) row.numbers (items c.args.list.now) (items c.stage_numbers.new.list) n c.stage_numbers.ensures.pushed
+          (list_slots 22) (row.list.len ∷ row.list.phases) (items c.stage_list.new.list) c.stage_list.ensures.pushed;
+      room = c.stage_list.ensures.room ∙ c.stage_numbers.ensures.room;
     }

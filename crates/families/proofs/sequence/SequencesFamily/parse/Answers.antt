@@ -5,4 +5,4 @@ use Rattle.families.proofs.sequence.SequencesFamily.parse.Goals as goal
 
 pub returns-in-Err : goal.returns-in-Err
 returns-in-Err c =
-    subst (λ cs. (phases (get_or cs 0 none)).Faults c.args.block.now c.args.from c.in-Err.fault) c.columns-of-columns.ensures c.in-Err.ensures
+    subst (λ cs. (phases (get_or cs 0 none)).Faults c.args.block.now c.args.from c.in-Err.fault) c.columns_of-columns.ensures c.in-Err.ensures

@@ -3,8 +3,8 @@ use Rattle.memory.proofs.Facts.{read_some, read_none}
 use Rattle.memory.proofs.Octets.{length_packed, length_packed_none, bounded_packed, read_wide_at, read_narrow_at, octet_end, width_wide, width_narrow}
 use Rattle.memory.proofs.packed.PackedMemoryParameterMemory.read.Goals as goal
 
-pub returns-then-self-ne-PACKED-OCTETS : goal.returns-then-self-ne-PACKED-OCTETS
-returns-then-self-ne-PACKED-OCTETS c =
+pub returns-then-self-ne-PACKED_OCTETS : goal.returns-then-self-ne-PACKED_OCTETS
+returns-then-self-ne-PACKED_OCTETS c =
     record {
       sound = tt;
       value = read_none _ _ (omega (arith, length_packed_none c.args.self.now.octets.now (λ e. omega arith)));
@@ -24,36 +24,36 @@ returns-then-at-ge-CELLS c =
     }
 
 pub bounds-self-from : goal.bounds-self-from
-bounds-self-from c = omega (arith, octet_end c.args.at (omega arith), width_wide c.args.at (sym c.if-is-wide.ensures))
+bounds-self-from c = omega (arith, octet_end c.args.at (omega arith), width_wide c.args.at (sym c.if-is_wide.ensures))
 
-pub overflow-add-result : goal.overflow-add-result
-overflow-add-result c = omega (arith, octet_end c.args.at (omega arith))
+pub overflow_add-result : goal.overflow_add-result
+overflow_add-result c = omega (arith, octet_end c.args.at (omega arith))
 
-pub bounds-self-from-then-is-wide : goal.bounds-self-from-then-is-wide
-bounds-self-from-then-is-wide c = omega (arith, octet_end c.args.at (omega arith), width_wide c.args.at (sym c.if-is-wide.ensures))
+pub bounds-self-from-then-is_wide : goal.bounds-self-from-then-is_wide
+bounds-self-from-then-is_wide c = omega (arith, octet_end c.args.at (omega arith), width_wide c.args.at (sym c.if-is_wide.ensures))
 
-pub bounds-self-from-else-is-wide : goal.bounds-self-from-else-is-wide
-bounds-self-from-else-is-wide c = omega (arith, octet_end c.args.at (omega arith), width_narrow c.args.at (sym c.if-is-wide.ensures))
+pub bounds-self-from-else-is_wide : goal.bounds-self-from-else-is_wide
+bounds-self-from-else-is_wide c = omega (arith, octet_end c.args.at (omega arith), width_narrow c.args.at (sym c.if-is_wide.ensures))
 
-pub returns-then-is-wide : goal.returns-then-is-wide
-returns-then-is-wide c =
+pub returns-then-is_wide : goal.returns-then-is_wide
+returns-then-is_wide c =
     record {
       sound = tt;
       value =
           read_some _ _ _ (omega (arith, length_packed c.args.self.now.octets.now (omega arith)))
-          (read_wide_at _ _ _ c.octet-of-from.ensures (omega arith) (omega arith) (sym c.if-is-wide.ensures) (omega arith) (omega arith));
+          (read_wide_at _ _ _ c.octet_of-from.ensures (omega arith) (omega arith) (sym c.if-is_wide.ensures) (omega arith) (omega arith));
       bounded = bounded_packed _ _;
       same = refl;
       kept = refl;
     }
 
-pub returns-else-is-wide : goal.returns-else-is-wide
-returns-else-is-wide c =
+pub returns-else-is_wide : goal.returns-else-is_wide
+returns-else-is_wide c =
     record {
       sound = tt;
       value =
           read_some _ _ _ (omega (arith, length_packed c.args.self.now.octets.now (omega arith)))
-          (read_narrow_at _ _ _ c.octet-of-from.ensures (omega arith) (omega arith) (sym c.if-is-wide.ensures) (omega arith));
+          (read_narrow_at _ _ _ c.octet_of-from.ensures (omega arith) (omega arith) (sym c.if-is_wide.ensures) (omega arith));
       bounded = bounded_packed _ _;
       same = refl;
       kept = refl;

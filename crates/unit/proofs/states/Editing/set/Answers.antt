@@ -5,7 +5,7 @@ use Rattle.unit.proofs.states.Editing.set.Goals as goal
 pub returns : goal.returns
 returns g c =
     record {
-      sound = c.set-items.ensures.sound;
-      kept = c.set-items.ensures.kept;
-      outcome = set_here _ _ _ _ _ (sym c.count.ensures.value ∙ omega arith) (omega arith) c.set-items.ensures.outcome;
+      sound = c.set_items.ensures.sound;
+      kept = c.set_items.ensures.kept;
+      outcome = set_here _ _ _ _ _ (sym c.count.ensures.value ∙ omega arith) (omega arith) c.set_items.ensures.outcome;
     }
