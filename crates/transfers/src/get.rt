@@ -13,12 +13,12 @@ use tables::address::Address;
 
 // The value of the number that the address names.
 fn value_at<R: ParameterMemory>(running: &mut R, address: Address) -> Option<u16>
-    requires sound { sound running.old }
-    requires count { length (cells running.old) ≡ cell_count }
-    ensures sound { sound running.new }
-    ensures same { cells running.new ≡ cells running.old }
-    ensures kept { kept running.new ≡ kept running.old }
-    ensures value { MatchOption result (Nameless address) (λ v. Value (cells running.old) address v) }
+    requires sound { R.sound running.old }
+    requires count { length (R.cells running.old) ≡ cell_count }
+    ensures sound { R.sound running.new }
+    ensures same { R.cells running.new ≡ R.cells running.old }
+    ensures kept { R.kept running.new ≡ R.kept running.old }
+    ensures value { MatchOption result (Nameless address) (λ v. Value (R.cells running.old) address v) }
 {
     let cell = address.cell()?;
     running.read(cell)
@@ -32,17 +32,17 @@ fn put_values<R: ParameterMemory>(
     reply: &mut [u8],
     position: &mut Position,
 ) -> Result<(), Refusal>
-    requires sound { sound running.old }
-    requires count { length (cells running.old) ≡ cell_count }
+    requires sound { R.sound running.old }
+    requires count { length (R.cells running.old) ≡ cell_count }
     requires whole { Whole 4 body.now }
     requires items { items.now ≡ drop 1 body.now }
     requires room { position.old.length ≡ 2 }
     requires long { reply_room ≤ length reply.old }
-    ensures sound { sound running.new }
-    ensures same { cells running.new ≡ cells running.old }
-    ensures kept { kept running.new ≡ kept running.old }
+    ensures sound { R.sound running.new }
+    ensures same { R.cells running.new ≡ R.cells running.old }
+    ensures kept { R.kept running.new ≡ R.kept running.old }
     ensures outcome { MatchResult result
-        (λ _. (vs : List ℕ) × Values (cells running.old) body.now (count_in body.now) vs × Wrote reply.old 2 reply.new position.new.length (two_octets vs))
+        (λ _. (vs : List ℕ) × Values (R.cells running.old) body.now (count_in body.now) vs × Wrote reply.old 2 reply.new position.new.length (two_octets vs))
         (λ e. (k : ℕ) × FirstNameless body.now (count_in body.now) k × (e ≡ NoNumber (address_place k))) }
     ensures later { drop reply_room reply.new ≡ drop reply_room reply.old }
 {
@@ -63,16 +63,16 @@ pub fn get<R: ParameterMemory>(
     reply: &mut [u8],
     position: &mut Position,
 ) -> Result<(), Refusal>
-    requires sound { sound running.old }
-    requires count { length (cells running.old) ≡ cell_count }
+    requires sound { R.sound running.old }
+    requires count { length (R.cells running.old) ≡ cell_count }
     requires start { position.old.length ≡ 0 }
     requires long { reply_room ≤ length reply.old }
-    ensures sound { sound running.new }
-    ensures same { cells running.new ≡ cells running.old }
-    ensures kept { kept running.new ≡ kept running.old }
+    ensures sound { R.sound running.new }
+    ensures same { R.cells running.new ≡ R.cells running.old }
+    ensures kept { R.kept running.new ≡ R.kept running.old }
     ensures outcome { MatchResult result
-        (λ _. (os : List ℕ) × Got (cells running.old) body.now (accepted os) × Wrote reply.old 0 reply.new position.new.length os)
-        (λ e. Got (cells running.old) body.now (refused e) × (position.new.length ≡ 0)) }
+        (λ _. (os : List ℕ) × Got (R.cells running.old) body.now (accepted os) × Wrote reply.old 0 reply.new position.new.length os)
+        (λ e. Got (R.cells running.old) body.now (refused e) × (position.new.length ≡ 0)) }
     ensures later { drop reply_room reply.new ≡ drop reply_room reply.old }
 {
     let items = items_of(body, 4)?;

@@ -52,12 +52,12 @@ fn stage_items(
 
 // Makes the staged writes, in order.
 pub fn write_staged<D: ParameterMemory>(draft: &mut D, writes: &[StagedWrite])
-    requires sound { sound draft.old }
-    requires count { length (cells draft.old) ≡ cell_count }
+    requires sound { D.sound draft.old }
+    requires count { length (D.cells draft.old) ≡ cell_count }
     requires fit { (k : ℕ) → k < length writes.now → (cell_at writes.now k < cell_count) × (value_at writes.now k ≤ top_of (cell_at writes.now k)) }
-    ensures sound { sound draft.new }
-    ensures kept { kept draft.new ≡ kept draft.old }
-    ensures taken { Taken (cells draft.old) writes.now (cells draft.new) }
+    ensures sound { D.sound draft.new }
+    ensures kept { D.kept draft.new ≡ D.kept draft.old }
+    ensures taken { Taken (D.cells draft.old) writes.now (D.cells draft.new) }
 {
     for at in 0..writes.len() {
         let StagedWrite { cell, value } = writes[at];
@@ -71,14 +71,14 @@ pub fn set_items<D: ParameterMemory>(
     body: &[u8],
     writes: &mut [StagedWrite],
 ) -> Result<(), Refusal>
-    requires sound { sound draft.old }
-    requires count { length (cells draft.old) ≡ cell_count }
+    requires sound { D.sound draft.old }
+    requires count { length (D.cells draft.old) ≡ cell_count }
     requires room { 1024 ≤ length writes.old }
-    ensures sound { sound draft.new }
-    ensures kept { kept draft.new ≡ kept draft.old }
+    ensures sound { D.sound draft.new }
+    ensures kept { D.kept draft.new ≡ D.kept draft.old }
     ensures outcome { MatchResult result
-        (λ _. SetTo (cells draft.old) body.now (accepted (0 ∷ [])) (cells draft.new))
-        (λ e. SetTo (cells draft.old) body.now (refused e) (cells draft.new)) }
+        (λ _. SetTo (D.cells draft.old) body.now (accepted (0 ∷ [])) (D.cells draft.new))
+        (λ e. SetTo (D.cells draft.old) body.now (refused e) (D.cells draft.new)) }
 {
     let items = items_of(body, 6)?;
     let mut staged = BoundedList::new(writes);

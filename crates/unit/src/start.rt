@@ -10,10 +10,10 @@ use transfers::refusal::Refusal;
 
 // Writes the factory table to the running memory and begins quiet; refused where the count of cells is not the table's.
 pub fn begin<R: ParameterMemory>(running: &mut R) -> Result<Quiet, Refusal>
-    requires sound { sound running.old }
-    ensures sound { sound running.new }
-    ensures kept { kept running.new ≡ kept running.old }
-    ensures started { MatchResult result (λ q. Started (cells running.old) (cells running.new) q) (λ e. NotStarted (cells running.old) (cells running.new) e) }
+    requires sound { R.sound running.old }
+    ensures sound { R.sound running.new }
+    ensures kept { R.kept running.new ≡ R.kept running.old }
+    ensures started { MatchResult result (λ q. Started (R.cells running.old) (R.cells running.new) q) (λ e. NotStarted (R.cells running.old) (R.cells running.new) e) }
 {
     if running.count() != CELLS {
         return Err(Refusal::MemoryCount);
@@ -26,10 +26,10 @@ pub fn begin<R: ParameterMemory>(running: &mut R) -> Result<Quiet, Refusal>
 
 // The same start, answered by numbers.
 pub fn factory_start<R: ParameterMemory>(running: &mut R) -> Answer
-    requires sound { sound running.old }
-    ensures sound { sound running.new }
-    ensures kept { kept running.new ≡ kept running.old }
-    ensures started { FactoryStarted (cells running.old) result (cells running.new) }
+    requires sound { R.sound running.old }
+    ensures sound { R.sound running.new }
+    ensures kept { R.kept running.new ≡ R.kept running.old }
+    ensures started { FactoryStarted (R.cells running.old) result (R.cells running.new) }
 {
     match begin(running) {
         Ok(quiet) => Answer {

@@ -118,10 +118,10 @@ impl Editing {
         body: &[u8],
         writes: &mut [StagedWrite],
     ) -> Result<(), Refusal>
-        requires sound { sound draft.old }
-        ensures sound { sound draft.new }
-        ensures kept { kept draft.new ≡ kept draft.old }
-        ensures outcome { SetHere (cells draft.old) (length writes.old) body.now result (cells draft.new) }
+        requires sound { D.sound draft.old }
+        ensures sound { D.sound draft.new }
+        ensures kept { D.kept draft.new ≡ D.kept draft.old }
+        ensures outcome { SetHere (D.cells draft.old) (length writes.old) body.now result (D.cells draft.new) }
     {
         if draft.count() != CELLS {
             return Err(Refusal::MemoryCount);

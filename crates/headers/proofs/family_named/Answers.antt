@@ -6,8 +6,8 @@ use Rattle.headers.specs.Headers.{Standard}
 use Rattle.headers.proofs.HeaderFacts.{part_at, part_length}
 use Rattle.headers.proofs.family_named.Goals as goal
 
-pub returns-in_default-default : goal.returns-in_default-default
-returns-in_default-default c =
+pub returns-in_default-rest : goal.returns-in_default-rest
+returns-in_default-rest c =
     let s = c.args.block.now in
     let n = part_length s 1 in
     let some : 0 < length s = search rules in

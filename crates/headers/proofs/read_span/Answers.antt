@@ -13,8 +13,8 @@ returns-then-start-lt1 c =
     let n = part_length s from in
     at_first (bad (search rules) (λ v h. elim c.then-start-lt1.either [ inl l ↦ omega (arith, l, h.0, h.1, at) | inr l ↦ omega (arith, l, h.0, h.2, at) ]) refl)
 
-pub returns-in_default-default : goal.returns-in_default-default
-returns-in_default-default c =
+pub returns-in_default-rest : goal.returns-in_default-rest
+returns-in_default-rest c =
     let s = c.args.block.now in
     let from = c.args.from in
     let at = part_first s from in

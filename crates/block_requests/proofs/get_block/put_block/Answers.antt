@@ -7,7 +7,7 @@ use Rattle.block_requests.proofs.get_block.put_block.Goals as goal
 
 pub returns-in_err-family_named : goal.returns-in_err-family_named
 returns-in_err-family_named g c =
-    let p = err_from_is_err_and c.from-residual.result c.from-residual.ensures.1 in
+    let p = err_from_is_err_and c.from_residual.result c.from_residual.ensures.1 in
     record {
       sound = c.requires.sound;
       same = refl;

@@ -7,7 +7,7 @@ use Rattle.block_requests.proofs.set_block.stage_block.Goals as goal
 
 pub returns-in_err-family_named : goal.returns-in_err-family_named
 returns-in_err-family_named c =
-    let p = err_from_is_err_and c.from-residual.result c.from-residual.ensures.1 in
+    let p = err_from_is_err_and c.from_residual.result c.from_residual.ensures.1 in
     rw (p.1, p.2) (in_front c.in_err-family_named.ensures)
 
 pub returns-in-Phase : goal.returns-in-Phase

@@ -11,14 +11,14 @@ use Rattle.blocks.proofs.rows.read_block.Goals as goal
 pub returns-in_err-spans : goal.returns-in_err-spans
 returns-in_err-spans g c =
     let f = g.F.Family in
-    let p = err_from_is_err_and c.from-residual.result c.from-residual.ensures.1 in
+    let p = err_from_is_err_and c.from_residual.result c.from_residual.ensures.1 in
     rw (p.1, p.2) (at_first (spans-missed f.family f.layout c.args.block.now c.last_row-last.result c.last_row-last.ensures _ c.in_err-spans.ensures))
 
 pub returns-in_err-from : goal.returns-in_err-from
 returns-in_err-from g c =
     let f = g.F.Family in
     let sp = c.in_ok-spans.spans in
-    let p = err_from_is_err_and c.from-residual-in_err-from.result c.from-residual-in_err-from.ensures.1 in
+    let p = err_from_is_err_and c.from_residual-in_err-from.result c.from_residual-in_err-from.ensures.1 in
     rw (p.1, p.2)
     (count-missed f.family f.layout c.args.block.now c.last_row-last.result c.last_row-last.ensures sp.row sp.end c.in_ok-spans.ensures.1 c.rows.result c.rows.ensures _ c.in_err-from.ensures)
 
@@ -38,7 +38,7 @@ returns-in_err-end g c =
     let f = g.F.Family in
     let sp = c.in_ok-spans.spans in
     let k = c.in_ok-from.ensures.1 in
-    let p = err_from_is_err_and c.from-residual-in_err-end.result c.from-residual-in_err-end.ensures.1 in
+    let p = err_from_is_err_and c.from_residual-in_err-end.result c.from_residual-in_err-end.ensures.1 in
     rw (p.1, p.2)
     (rows-missed f.family f.layout c.args.block.now c.last_row-last.result c.last_row-last.ensures sp.row sp.end c.in_ok-spans.ensures.1 c.rows.result c.rows.ensures k.0 c.in_ok-from.from k.1 _ c.in_err-end.ensures)
 

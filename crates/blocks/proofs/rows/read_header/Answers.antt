@@ -15,7 +15,7 @@ returns-then-spans-block g c =
 pub returns-in_err-spans : goal.returns-in_err-spans
 returns-in_err-spans g c =
     let f = g.F.Family in
-    let p = err_from_is_err_and c.from-residual.result c.from-residual.ensures.1 in
+    let p = err_from_is_err_and c.from_residual.result c.from_residual.ensures.1 in
     rw (p.1, p.2) (in_part (spans-missed f.family f.layout c.args.block.now c.last_row-last.result c.last_row-last.ensures _ c.in_err-spans.ensures))
 
 pub returns : goal.returns

@@ -12,7 +12,7 @@ use Rattle.transfers.proofs.get.get.Goals as goal
 
 pub returns-in_err-items : goal.returns-in_err-items
 returns-in_err-items g c =
-    let p = err_from_is_err_and c.from-residual.result c.from-residual.ensures.1 in
+    let p = err_from_is_err_and c.from_residual.result c.from_residual.ensures.1 in
     record {
       sound = c.requires.sound;
       same = refl;
@@ -23,7 +23,7 @@ returns-in_err-items g c =
 
 pub returns-in_err-put_values : goal.returns-in_err-put_values
 returns-in_err-put_values g c =
-    let p = err_from_is_err_and c.from-residual-in_err-put_values.result c.from-residual-in_err-put_values.ensures.1 in
+    let p = err_from_is_err_and c.from_residual-in_err-put_values.result c.from_residual-in_err-put_values.ensures.1 in
     let whole = c.in_ok-items.ensures.0 in
     let o = c.in_err-put_values.ensures.outcome in
     let w = wrote_more c.put.ensures c.put-2.ensures in

@@ -10,7 +10,7 @@ use Rattle.transfers.proofs.set.set_items.Goals as goal
 
 pub returns-in_err-items : goal.returns-in_err-items
 returns-in_err-items g c =
-    let p = err_from_is_err_and c.from-residual.result c.from-residual.ensures.1 in
+    let p = err_from_is_err_and c.from_residual.result c.from_residual.ensures.1 in
     record {
       sound = c.requires.sound;
       kept = refl;
@@ -19,7 +19,7 @@ returns-in_err-items g c =
 
 pub returns-in_err-stage_items : goal.returns-in_err-stage_items
 returns-in_err-stage_items g c =
-    let p = err_from_is_err_and c.from-residual-in_err-stage_items.result c.from-residual-in_err-stage_items.ensures.1 in
+    let p = err_from_is_err_and c.from_residual-in_err-stage_items.result c.from_residual-in_err-stage_items.ensures.1 in
     let o = c.in_err-stage_items.ensures in
     record {
       sound = c.requires.sound;

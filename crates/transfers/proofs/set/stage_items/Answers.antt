@@ -9,7 +9,7 @@ use Rattle.transfers.proofs.set.stage_items.Goals as goal
 
 pub returns-in_err-write : goal.returns-in_err-write
 returns-in_err-write c =
-    let p = err_from_is_err_and c.from-residual.result c.from-residual.ensures.1 in
+    let p = err_from_is_err_and c.from_residual.result c.from_residual.ensures.1 in
     let body = c.args.body.now in
     let n = item_count body c.args.items.now c.requires.whole c.requires.items in
     let count : count_in body ≡ length c.args.items.now / 6 = omega arith in

@@ -5,7 +5,7 @@ use Rattle.unit.proofs.operations.get_request.Goals as goal
 
 pub returns-in_err-get : goal.returns-in_err-get
 returns-in_err-get g c =
-    let p = err_from_is_err_and c.from-residual.result c.from-residual.ensures.1 in
+    let p = err_from_is_err_and c.from_residual.result c.from_residual.ensures.1 in
     let o = c.in_err-get.ensures.outcome in
     record {
       sound = (c.get.ensures.sound, c.requires.sound.1);

@@ -6,7 +6,7 @@ use Rattle.unit.proofs.operations.set_request.Goals as goal
 
 pub returns-in_err-set : goal.returns-in_err-set
 returns-in_err-set g c =
-    let p = err_from_is_err_and c.from-residual.result c.from-residual.ensures.1 in
+    let p = err_from_is_err_and c.from_residual.result c.from_residual.ensures.1 in
     let s = set-refused _ _ _ _ _ c.in_err-set.field-0.0 c.requires.counts.draft c.requires.room c.set-set.ensures.outcome c.in_err-set.was in
     record {
       sound = (c.requires.sound.0, c.set-set.ensures.sound);
