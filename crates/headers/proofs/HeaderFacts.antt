@@ -1,5 +1,5 @@
 -- Headers, octet by octet.
-use Rattle.std.proofs.Common.{◌≡◌, ℕ, zero, suc, ◌+◌, ◌-◌, ◌*◌, ◌/◌, ◌%◌, ◌<◌, ◌≤◌, min, Bool, true, false, cond, eqb, ltb, ◌⊎◌, List, [], ◌∷◌, ◌++◌, map, length, get_or, take, drop, sym, refl, ap, ◌∙◌, subst, inl, inr, ⊎_elim, add-zero, arith, length-append, take_all}
+use Rattle.std.proofs.Common.{◌≡◌, ℕ, zero, suc, ◌+◌, ◌-◌, ◌/◌, ◌%◌, ◌<◌, ◌≤◌, min, Bool, true, false, cond, ltb, ◌⊎◌, List, [], ◌∷◌, ◌++◌, map, length, get_or, take, drop, sym, refl, ap, ◌∙◌, subst, inl, inr, ⊎_elim, add-zero, arith, length-append, take_all}
 use Rattle.std.proofs.lemmas.List.{take_rest, get_or-drop, length-drop, take_more, drop_more, take-append-drop, get_or_at}
 use Rattle.std.proofs.lemmas.Bool.{cases_eq}
 use Rattle.std.proofs.str.Laws.{order}
@@ -7,12 +7,12 @@ use Rattle.tables.specs.declared.family.FamilyId.{FamilyId}
 use Rattle.tables.specs.declared.family.FamilyId.TheVariants.{Phase, VehicleDetector, PedestrianDetector, Pattern, Split, Action, Sequence}
 use Rattle.tables.specs.Families.{shape_of}
 use Rattle.values.specs.declared.Fault.{Fault}
-use Rattle.values.specs.declared.Fault.TheVariants.{NotInTable, CountDiffers, Missing}
-use Rattle.values.specs.Reading.{Reading, item, ItemMeans, ItemFaults, bad, gone, at_first, at_second, Decided, Written, Near, EachMeans, EachFaults, EachOf, each_octets, total}
+use Rattle.values.specs.declared.Fault.TheVariants.{NotInTable, CountDiffers}
+use Rattle.values.specs.Reading.{item, ItemFaults, at_first, at_second, Decided, Written, Near, EachOf, each_octets, total}
 use Rattle.values.proofs.Parts.{item-decided, item-near, then-decided, then-written, then-near, seen-decided, seen-written, seen-near, held-decided, held-written, held-near, each-decided, each-written, each-near, each_append, each_after, near_more}
 use Rattle.headers.specs.declared.Span.{Span}
 use Rattle.headers.specs.declared.Spans.{Spans}
-use Rattle.headers.specs.Headers.{Standard, Identifies, family_named, UpTo, span_in, spans_in, spans_of, no_second, exactly, count_octets, count, InTable, rows_in, spans_octets}
+use Rattle.headers.specs.Headers.{Identifies, family_named, UpTo, span_in, spans_in, spans_of, no_second, exactly, count_octets, count, InTable, spans_octets}
 
 -- what follows an offset
 pub part_at : (s : List ℕ) (from i : ℕ) → get_or (take (length s - from) (drop from s)) i 0 ≡ get_or s (from + i) 0

@@ -3,7 +3,6 @@ use Rattle.std.specs.Prelude.{◌≡◌, ℕ, zero, suc, ◌+◌, ◌-◌, ◌*�
 use Rattle.tables.specs.declared.family.FamilyId.{FamilyId}
 use Rattle.tables.specs.declared.place.Place.{Place}
 use Rattle.tables.specs.Families.{shape_of}
-use Rattle.values.specs.declared.Fault.{Fault}
 use Rattle.values.specs.declared.Fault.TheVariants.{NotInTable, CountDiffers}
 use Rattle.values.specs.Reading.{Reading, item, then, each, seen, held}
 use Rattle.headers.specs.declared.Span.{Span}

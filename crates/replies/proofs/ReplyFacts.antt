@@ -1,7 +1,7 @@
 -- Replies in the making, step by step.
-use Rattle.std.proofs.Common.{◌≡◌, ℕ, ◌+◌, ◌-◌, ◌<◌, ◌≤◌, List, [], ◌∷◌, ◌++◌, length, get_or, take, drop, set, replicate, sym, refl, ap, ◌∙◌, subst, arith}
-use Rattle.std.proofs.lemmas.List.{append_assoc, append-nil, length-append, length-take-le, length-replicate, take_more_set, take-take, take_all, take_at, drop-set-lt, drop-drop, drop_more, set-append_right, replicate_more, take-append-drop}
-use Rattle.replies.specs.Replies.{Wrote, TakenBack, reply_room, padded}
+use Rattle.std.proofs.Common.{◌≡◌, ℕ, ◌+◌, ◌-◌, ◌<◌, ◌≤◌, List, [], ◌∷◌, ◌++◌, length, take, drop, set, replicate, sym, refl, ap, ◌∙◌, subst, arith}
+use Rattle.std.proofs.lemmas.List.{append_assoc, append-nil, length-append, length-take-le, length-replicate, take_more_set, take-take, take_at, drop-set-lt, drop-drop, drop_more, set-append_right, replicate_more, take-append-drop}
+use Rattle.replies.specs.Replies.{Wrote, reply_room, padded}
 
 pub wrote_one : (b : List ℕ) (n x : ℕ) → n < length b → Wrote b n (set b n x) (n + 1) (x ∷ [])
 wrote_one b n x h = record { len = refl; octets = take_more_set b n x h; later = drop-set-lt (n + 1) b n x (omega arith) }

@@ -1,5 +1,5 @@
 -- Reply memory: what a reply in the making has written, and what stands there in the end.
-use Rattle.std.specs.Prelude.{◌≡◌, ℕ, ◌+◌, ◌-◌, ◌<◌, ◌≤◌, List, [], ◌∷◌, ◌++◌, length, take, drop, replicate}
+use Rattle.std.specs.Prelude.{◌≡◌, ℕ, ◌+◌, ◌-◌, List, ◌++◌, length, take, drop, replicate}
 
 -- the octets of reply memory that a call needs and sets
 abbrev pub reply_room : ℕ

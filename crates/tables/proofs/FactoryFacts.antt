@@ -1,17 +1,16 @@
 -- The factory table, place by place.
-use Rattle.std.proofs.Common.{◌≡◌, ℕ, ◌+◌, ◌-◌, ◌*◌, ◌%◌, ◌<◌, ◌≤◌, Bool, true, false, cond, ◌||◌, T, eqb, ltb, leb, ◌⊎◌, length, get_or, sym, refl, ap, ◌∙◌, subst, inl, inr, ⊎_elim, arith}
+use Rattle.std.proofs.Common.{◌≡◌, ℕ, ◌+◌, ◌-◌, ◌%◌, ◌<◌, ◌≤◌, Bool, true, false, cond, T, eqb, leb, get_or, sym, refl, ap, ◌∙◌, inl, inr, arith}
 use Rattle.std.proofs.lemmas.Nat.{mod-mul-add}
 use Rattle.std.proofs.lemmas.Bool.{lt-ltb, le-ltb, eq-eqb, ne_eqb, eqb-true, cases_eq, le-leb, lt-leb}
-use Rattle.memory.specs.Held.{list_by}
 use Rattle.memory.proofs.Facts.{get_or-list_by}
 use Rattle.tables.specs.declared.columns.Column.{Column}
 use Rattle.tables.specs.declared.family.FamilyId.{FamilyId}
 use Rattle.tables.specs.declared.family.FamilyId.TheVariants.{Phase, VehicleDetector, PedestrianDetector, Pattern, Split, Action, Sequence}
 use Rattle.tables.specs.declared.place.Place.{Place}
 use Rattle.tables.specs.Columns.{columns, none}
-use Rattle.tables.specs.Families.{shape_of, column_of, cells_of, is_list, cells_end}
+use Rattle.tables.specs.Families.{shape_of, column_of, is_list}
 use Rattle.tables.specs.Places.{Stands, cell_of, rows_before}
-use Rattle.tables.specs.Allowed.{allows, holds, length_place, AllowedAt}
+use Rattle.tables.specs.Allowed.{allows, length_place, AllowedAt}
 use Rattle.tables.specs.Factory.{factory_in, factory_cell, factory}
 use Rattle.tables.proofs.Each.{each}
 use Rattle.tables.proofs.PlaceFacts.{cell-is, cell-least, cell-last, cell_below, in_row, same_test, column-at, column-within, place}

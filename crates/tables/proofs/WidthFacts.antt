@@ -1,5 +1,5 @@
 -- A cell of a two-octet column is wide, and no other.
-use Rattle.std.proofs.Common.{◌≡◌, ℕ, ◌+◌, ◌-◌, ◌*◌, ◌%◌, ◌<◌, ◌≤◌, Bool, true, false, cond, ◌||◌, T, eqb, ltb, leb, length, get_or, Some, None, sym, refl, ap, ◌∙◌, subst, inl, inr, arith, lit≤, leb→le}
+use Rattle.std.proofs.Common.{◌≡◌, ℕ, ◌+◌, ◌-◌, ◌%◌, ◌<◌, ◌≤◌, Bool, true, false, cond, ◌||◌, T, eqb, leb, get_or, Some, None, sym, refl, ap, ◌∙◌, subst, inl, inr, arith, lit≤, leb→le}
 use Rattle.std.proofs.lemmas.Nat.{mod-mul-add}
 use Rattle.std.proofs.lemmas.Bool.{lt-ltb, le-ltb, ne_eqb, or_from, or_cases, and_parts, leb-true, eqb-true, cases_Bool, cond-true, cond-false}
 use Rattle.memory.specs.Top.{wide, top_of, cell_count}

@@ -1,6 +1,6 @@
 -- Where a value stands, and the number of its cell.
 use Rattle.std.specs.Prelude.{◌≡◌, ℕ, ◌+◌, ◌-◌, ◌*◌, ◌<◌, ◌≤◌, min, false, cond, ◌==◌}
-use Rattle.memory.specs.Top.{cell_count, top_of}
+use Rattle.memory.specs.Top.{top_of}
 use Rattle.tables.specs.declared.place.Place.{Place}
 use Rattle.tables.specs.declared.address.Address.{Address}
 use Rattle.tables.specs.Families.{shape_of, column_of, cells_of, is_list}

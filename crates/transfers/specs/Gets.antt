@@ -1,5 +1,5 @@
 -- Get: n addresses in, n values out.
-use Rattle.std.specs.Prelude.{◌≡◌, ℕ, ◌+◌, ◌/◌, ◌%◌, ◌<◌, List, [], ◌∷◌, length, slice_index}
+use Rattle.std.specs.Prelude.{◌≡◌, ℕ, ◌/◌, ◌%◌, ◌<◌, List, [], ◌∷◌, length, slice_index}
 use Rattle.tables.specs.declared.address.Address.{Address}
 use Rattle.tables.specs.Places.{NamesCell}
 use Rattle.transfers.specs.declared.refusal.Refusal.{Refusal}

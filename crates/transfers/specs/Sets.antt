@@ -1,5 +1,5 @@
 -- Set: n addresses and n values in; the draft takes all of them, in order, or none.
-use Rattle.std.specs.Prelude.{◌≡◌, ℕ, ◌+◌, ◌<◌, List, [], ◌∷◌, length, ◌≢◌, slice_index, slice_index_or}
+use Rattle.std.specs.Prelude.{◌≡◌, ℕ, ◌<◌, List, [], ◌∷◌, length, ◌≢◌, slice_index, slice_index_or}
 use Rattle.tables.specs.declared.place.Place.{Place}
 use Rattle.tables.specs.declared.work.StagedWrite.{StagedWrite}
 use Rattle.tables.specs.Places.{Names}

@@ -1,16 +1,16 @@
 -- A number: what its octets come to.
-use Rattle.std.proofs.Common.{◌≡◌, ℕ, ◌+◌, ◌-◌, ◌*◌, ◌/◌, ◌%◌, ◌<◌, ◌≤◌, Bool, true, false, cond, eqb, ◌⊎◌, List, [], ◌∷◌, ◌++◌, length, get_or, Some, None, Option, sym, refl, ap, ◌∙◌, subst, inl, inr, ⊎_elim, append_assoc, arith, length-append}
+use Rattle.std.proofs.Common.{◌≡◌, ℕ, ◌+◌, ◌-◌, ◌*◌, ◌/◌, ◌%◌, ◌≤◌, Bool, true, false, cond, eqb, ◌⊎◌, List, [], ◌∷◌, ◌++◌, length, get_or, Some, None, Option, sym, refl, ap, ◌∙◌, subst, inl, inr, ⊎_elim, append_assoc, arith, length-append}
 use Rattle.std.proofs.lemmas.List.{get_or_at}
-use Rattle.std.proofs.lemmas.Bool.{cases_Bool, cond-true, cond-false, and_parts, not-true}
+use Rattle.std.proofs.lemmas.Bool.{cond-true, cond-false, and_parts, not-true}
 use Rattle.std.proofs.str.Laws.{order}
 use Rattle.tables.specs.declared.columns.Column.{Column}
 use Rattle.tables.specs.declared.columns.Kind.{Kind}
 use Rattle.tables.specs.declared.columns.Kind.TheVariants.{Number, DetectorOptions, ActionPattern, PhaseList}
-use Rattle.tables.specs.Allowed.{allows, stored, kind_means, kind_allows, both_set, in_range}
+use Rattle.tables.specs.Allowed.{allows, stored, kind_means, kind_allows, both_set}
 use Rattle.tables.proofs.WidthFacts.{stored-allowed}
 use Rattle.values.specs.declared.Fault.{Fault}
 use Rattle.values.specs.declared.Fault.TheVariants.{NotAllowed, Missing}
-use Rattle.values.specs.Reading.{Reading, Decided, Written, Near, place_in}
+use Rattle.values.specs.Reading.{Decided, Written, Near, place_in}
 use Rattle.values.specs.Numbers.{size, sent, NumberMeans, NumberFaults, bad, gone, number, Allowed, octets}
 
 some_or_none : (o : Option ℕ) → ((v : ℕ) × (o ≡ Some v)) ⊎ (o ≡ None)

@@ -1,5 +1,5 @@
 -- A list of phases: what its octets come to.
-use Rattle.std.proofs.Common.{◌≡◌, ℕ, zero, suc, ◌+◌, ◌-◌, ◌<◌, ◌≤◌, List, [], ◌∷◌, ◌++◌, length, take, drop, replicate, sym, refl, ap, ◌∙◌, subst, arith, length-append, take_at, drop_at}
+use Rattle.std.proofs.Common.{◌≡◌, ℕ, zero, suc, ◌-◌, ◌≤◌, List, ◌++◌, length, take, drop, replicate, sym, refl, ap, ◌∙◌, subst, arith, length-append, take_at, drop_at}
 use native.Mathlib.Nat.{sub-zero}
 use lib.ListN.{length-replicate}
 use Rattle.std.proofs.lemmas.Bool.{leb-true, and_parts}
@@ -8,8 +8,8 @@ use Rattle.std.proofs.lemmas.List.{take-replicate, drop-replicate, take-append-d
 use Rattle.tables.specs.declared.columns.Column.{Column}
 use Rattle.values.specs.declared.phases.PhaseList.{PhaseList}
 use Rattle.values.specs.declared.Fault.{Fault}
-use Rattle.values.specs.Reading.{Reading, at_second, Decided, Written, Near, each_octets, EachOf}
-use Rattle.values.specs.Numbers.{number, numbers, NumberMeans, Allowed, Fits, octets, size, sizes, sent}
+use Rattle.values.specs.Reading.{at_second, Decided, Written, Near, each_octets}
+use Rattle.values.specs.Numbers.{number, numbers, octets, size, sizes, sent}
 use Rattle.values.specs.Lists.{length_column, listing, listed, Padded, phases, ListAllowed, ListFits, list_octets}
 use Rattle.values.proofs.Parts.{then-decided, then-written, then-near, each-length, each-written, held-decided, held-written, held-near, near_more}
 use Rattle.values.proofs.Number.{number-decided, number-written, number-near, octets-size}

@@ -4,11 +4,11 @@ use Rattle.std.proofs.lemmas.List.{take_more, take_more_set, drop_more, take-app
 use Rattle.tables.specs.declared.columns.Column.{Column}
 use Rattle.tables.specs.Columns.{none}
 use Rattle.values.specs.declared.Fault.{Fault}
-use Rattle.values.specs.Reading.{Reading, Decided, Written, Near, EachOf, each_octets, total}
+use Rattle.values.specs.Reading.{Decided, Written, Near, EachOf, each_octets}
 use Rattle.replies.specs.Replies.{Wrote}
 use Rattle.replies.proofs.ReplyFacts.{wrote_more}
-use Rattle.values.specs.Numbers.{number, numbers, Allowed, Fits, octets, size, sizes}
-use Rattle.values.proofs.Parts.{each_append, each_after, each-decided, each-written, each-near, octets_append, octets-length, total_append, each-of-length}
+use Rattle.values.specs.Numbers.{number, numbers, Allowed, octets, size, sizes}
+use Rattle.values.proofs.Parts.{each_append, each_after, each-decided, each-written, each-near, octets_append, octets-length, total_append}
 use Rattle.values.proofs.Number.{number-decided, number-written, number-near, octets-size}
 
 pub numbers-decided : (cs : List Column) → Decided (numbers cs)

@@ -1,7 +1,5 @@
-use Rattle.std.proofs.Common.{◌≡◌, ◌+◌, ◌<◌, ◌≤◌, length, get_or, sym, refl, ◌∙◌, subst, arith, rules}
-use Rattle.tables.specs.declared.family.FamilyId.{FamilyId}
-use Rattle.tables.specs.Families.{shape_of}
-use Rattle.values.specs.Reading.{ItemMeans, bad, gone, at_first, at_second}
+use Rattle.std.proofs.Common.{◌<◌, length, sym, refl, ◌∙◌, rules}
+use Rattle.values.specs.Reading.{ItemMeans, bad, gone, at_second}
 use Rattle.headers.specs.Headers.{Standard}
 use Rattle.headers.proofs.HeaderFacts.{part_at, part_length}
 use Rattle.headers.proofs.family_named.Goals as goal

@@ -1,4 +1,4 @@
-use Rattle.std.proofs.Common.{◌/◌, ◌%◌, cond, [], ◌∷◌, sym, ap, subst}
+use Rattle.std.proofs.Common.{◌/◌, ◌%◌, cond, [], ◌∷◌, sym, subst}
 use Rattle.std.proofs.lemmas.Bool.{lt-ltb, le-ltb}
 use Rattle.replies.specs.Replies.{Wrote}
 use Rattle.replies.proofs.ReplyFacts.{wrote_more}

@@ -1,4 +1,4 @@
-use Rattle.std.proofs.Common.{◌≡◌, ◌+◌, ◌-◌, ◌<◌, ◌≤◌, length, get_or, take, drop, sym, refl, ◌∙◌, subst, inl, inr, arith, rules}
+use Rattle.std.proofs.Common.{◌+◌, get_or, refl, inl, inr, arith, rules}
 use Rattle.values.specs.Reading.{ItemMeans, bad, gone, at_first, at_second}
 use Rattle.headers.specs.Headers.{UpTo}
 use Rattle.headers.proofs.HeaderFacts.{part_first, part_length, next_at, next_length}

@@ -1,4 +1,4 @@
-use Rattle.std.proofs.Common.{◌∙◌, lit<, rules}
+use Rattle.std.proofs.Common.{◌∙◌, lit<}
 use Rattle.account.proofs.Lines.{pair_between}
 use Rattle.account.proofs.layout.push_pair.Goals as goal
 

@@ -1,4 +1,3 @@
-use Rattle.std.proofs.Common.{arith}
 use Rattle.tables.proofs.PlaceFacts.{row_below, at_below, cell_made}
 use Rattle.tables.proofs.place.place_of.Goals as goal
 

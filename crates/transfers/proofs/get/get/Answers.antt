@@ -1,10 +1,9 @@
-use Rattle.std.proofs.Common.{◌≡◌, ◌+◌, ◌*◌, ◌/◌, ◌%◌, ◌<◌, ◌≤◌, cond, List, [], ◌∷◌, ◌++◌, length, drop, sym, refl, ap, ◌∙◌, subst, arith, rules}
+use Rattle.std.proofs.Common.{◌∷◌, refl, ap, ◌∙◌, arith, rules}
 use Rattle.std.proofs.lemmas.Result.{err_from_is_err_and}
 use Rattle.std.proofs.lemmas.Bool.{cond-false}
 use Rattle.replies.specs.declared.Position.{Position}
-use Rattle.replies.specs.Replies.{Wrote, reply_room}
 use Rattle.replies.proofs.ReplyFacts.{wrote_more, wrote_later, wrote_counted}
-use Rattle.transfers.specs.Items.{count_in, Whole}
+use Rattle.transfers.specs.Items.{count_in}
 use Rattle.transfers.specs.Gets.{refused, two_octets}
 use Rattle.transfers.specs.Gets.Got.{miscounted, nameless, values}
 use Rattle.transfers.proofs.GetFacts.{item_count}

@@ -1,9 +1,9 @@
-use Rattle.std.proofs.Common.{◌≡◌, ◌+◌, ◌*◌, ◌/◌, ◌%◌, ◌<◌, ◌≤◌, [], ◌∷◌, ◌++◌, length, sym, refl, ap, ◌∙◌, subst, arith}
-use Rattle.replies.specs.Replies.{Wrote, reply_room}
+use Rattle.std.proofs.Common.{◌≡◌, ◌<◌, ◌≤◌, [], ◌∷◌, ◌++◌, sym, ap, ◌∙◌, subst, arith}
+use Rattle.replies.specs.Replies.{Wrote}
 use Rattle.replies.proofs.ReplyFacts.{wrote_more, wrote_later}
 use Rattle.transfers.specs.declared.refusal.Refusal.TheVariants.{NoNumber}
 use Rattle.transfers.specs.Items.{address_at, count_in}
-use Rattle.transfers.specs.Gets.{Value, Nameless, two_octets}
+use Rattle.transfers.specs.Gets.{Value, Nameless}
 use Rattle.transfers.proofs.GetFacts.{values_more, octets_more, first-nameless, item_count}
 use Rattle.transfers.proofs.get.put_values.Goals as goal
 

@@ -1,6 +1,5 @@
-use Rattle.std.proofs.Common.{◌≡◌, ℕ, ◌+◌, ◌*◌, ◌≤◌, List, length, drop}
-use Rattle.memory.specs.Top.{cell_count}
-use Rattle.replies.specs.Replies.{Wrote, reply_room}
+use Rattle.std.proofs.Common.{◌≡◌, ℕ, ◌+◌, ◌*◌, List}
+use Rattle.replies.specs.Replies.{Wrote}
 use Rattle.transfers.specs.Gets.{Values, two_octets}
 use Rattle.transfers.proofs.get.put_values.Given as goal
 

@@ -1,9 +1,5 @@
-use Rattle.std.proofs.Common.{◌≡◌, ℕ, ◌<◌, ◌≤◌, length, sym, refl, ap, ◌∙◌, subst, arith, rules}
+use Rattle.std.proofs.Common.{refl}
 use Rattle.std.proofs.lemmas.Result.{err_from_is_err_and}
-use Rattle.memory.specs.Top.{cell_count, top_of}
-use Rattle.lists.specs.Items.{items as listed}
-use Rattle.transfers.specs.Items.{count_in}
-use Rattle.transfers.specs.Sets.{Writes, cell_at, value_at}
 use Rattle.transfers.specs.Sets.SetTo.{miscounted, faulty, taken}
 use Rattle.transfers.proofs.SetFacts.{writes_fit}
 use Rattle.transfers.proofs.set.set_items.Goals as goal

@@ -1,6 +1,6 @@
-use Rattle.std.proofs.Common.{◌≡◌, ◌+◌, ◌/◌, [], ◌∷◌, ◌++◌, length, sym, refl, ap, ◌∙◌, subst, arith, rules}
+use Rattle.std.proofs.Common.{◌≡◌, ◌+◌, ◌/◌, [], ◌∷◌, ◌++◌, length, sym, ◌∙◌, subst, arith, rules}
 use Rattle.std.proofs.lemmas.Result.{err_from_is_err_and}
-use Rattle.lists.specs.Items.{items as listed, room}
+use Rattle.lists.specs.Items.{items as listed}
 use Rattle.tables.specs.Allowed.{Stores}
 use Rattle.transfers.specs.Items.{count_in, address_at, sent_at}
 use Rattle.transfers.specs.Sets.{Writes}

@@ -1,4 +1,4 @@
-use Rattle.std.proofs.Common.{◌≡◌, ◌+◌, ◌<◌, ◌≤◌, length, take, ap, ◌∙◌, subst, arith, take_all, rules}
+use Rattle.std.proofs.Common.{◌≡◌, ◌+◌, ◌≤◌, length, take, subst, arith, take_all}
 use Rattle.tables.specs.Columns.{none}
 use Rattle.replies.specs.Replies.{Wrote}
 use Rattle.values.specs.Reading.{each_octets}

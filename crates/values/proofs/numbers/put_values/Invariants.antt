@@ -1,7 +1,7 @@
-use Rattle.std.proofs.Common.{◌≡◌, ◌+◌, take}
+use Rattle.std.proofs.Common.{take}
 use Rattle.replies.specs.Replies.{Wrote}
 use Rattle.values.specs.Reading.{each_octets}
-use Rattle.values.specs.Numbers.{octets, sizes}
+use Rattle.values.specs.Numbers.{octets}
 use Rattle.values.proofs.numbers.put_values.Given as goal
 
 -- the numbers so far are written

@@ -1,4 +1,4 @@
-use Rattle.std.proofs.Common.{◌≡◌, ◌<◌, ◌≤◌, length, arith}
+use Rattle.std.proofs.Common.{◌≡◌, ◌<◌, length, arith}
 use Rattle.values.proofs.Table.{next, wrong, finish}
 use Rattle.values.proofs.numbers.read_numbers.Goals as goal
 

@@ -1,4 +1,4 @@
-use Rattle.std.proofs.Common.{◌≡◌, ◌+◌, ◌-◌, ◌≤◌, ◌++◌, length, take, replicate, sym, ap, ◌∙◌, subst, arith, rules}
+use Rattle.std.proofs.Common.{◌≡◌, ◌-◌, ◌++◌, take, replicate, sym, subst, arith}
 use native.Mathlib.Nat.{sub-zero}
 use Rattle.replies.specs.Replies.{Wrote}
 use Rattle.replies.proofs.ReplyFacts.{wrote_more}

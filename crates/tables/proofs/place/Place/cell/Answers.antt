@@ -1,6 +1,4 @@
-use Rattle.std.proofs.Common.{◌≡◌, sym, refl, ap, ◌∙◌, subst, arith}
-use Rattle.tables.specs.Places.{Stands, cell_of}
-use Rattle.std.proofs.lemmas.Bool.{not-false}
+use Rattle.std.proofs.Common.{refl, arith}
 use Rattle.tables.proofs.PlaceFacts.{cell_sum, cell_below}
 use Rattle.tables.proofs.place.Place.cell.Goals as goal
 
