@@ -13,7 +13,7 @@ fn fourth_is_refused(rt: HostRuntime) {
     for (x, fits) in [(7u8, true), (8, true), (9, true), (10, false)] {
         assert!(rt; list.push(x).is_ok() == fits);
     }
-    assert!(rt; list.as_slice() == [7, 8, 9]);
+    assert!(rt; list.as_slice() == [7, 8, 9].as_slice());
 }
 
 #[test]
@@ -26,6 +26,8 @@ fn old_content_is_not_answered(rt: HostRuntime) {
         assert!(rt; list.push(e).is_ok());
     }
     assert!(rt;
-        list.as_slice() == pushed && list.get(1) == Some(pushed[1]) && list.get(2).is_none()
+        list.as_slice() == pushed.as_slice()
+            && list.get(1) == Some(pushed[1])
+            && list.get(2).is_none()
     );
 }

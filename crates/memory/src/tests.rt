@@ -25,14 +25,14 @@ fn wide_cells_take_two_octets_high_first(rt: HostRuntime) {
     assert!(rt; memory.write(611, 0x0304).is_ok());
     assert!(rt; memory.write(2543, 5).is_ok());
     assert_eq!(rt; memory.read(611), Some(0x0304));
-    assert_eq!(rt; &octets[19..21], &[1, 2]);
-    assert_eq!(rt; &octets[627..629], &[3, 4]);
+    assert_eq!(rt; &octets[19..21], [1, 2].as_slice());
+    assert_eq!(rt; &octets[627..629], [3, 4].as_slice());
     assert_eq!(rt; octets[2623], 5);
 }
 
 // There is no cell to read or write.
 fn check_no_cells<M: ParameterMemory>(rt: &impl Abort, memory: &mut M)
-    requires { sound memory.old }
+    requires { M.sound memory.old }
 {
     assert_eq!(rt; memory.count(), 0);
     assert_eq!(rt; memory.read(0), None);

@@ -5,7 +5,7 @@ use std::test::Fail;
 fn reads_numbers_high_octet_first(rt: HostRuntime) -> Result<(), Fail> {
     match read(rt.alloc(), &[0, 2, 0, 1, 0xFF, 0xFE])? {
         Reading::Numbers(numbers) => {
-            assert_eq!(rt; numbers.as_slice(), &[1, 65534]);
+            assert_eq!(rt; numbers.as_slice(), [1, 65534].as_slice());
             Ok(())
         },
         Reading::Done | Reading::Refused(_) | Reading::Unclear => Err(Fail::new("no numbers")),

@@ -115,7 +115,7 @@ fn a_get_reads_wide_and_narrow_words(rt: HostRuntime) {
     running[19] = 0x0102;
     let a = ask(0, &mut running, &mut draft, &GET, &mut reply, 1024, 64);
     assert_eq!(rt; (a.number, a.length), (0, 6));
-    assert_eq!(rt; &reply[0..7], &[0, 2, 1, 2, 0, 2, 0]);
+    assert_eq!(rt; &reply[0..7], [0, 2, 1, 2, 0, 2, 0].as_slice());
     assert_eq!(rt; (running[18], running[0]), (0xA501, 0xA500));
 }
 
@@ -146,7 +146,7 @@ fn a_get_reads_packed_octets(rt: HostRuntime) {
         &mut finding_slots,
     );
     assert_eq!(rt; (a.number, a.length), (0, 6));
-    assert_eq!(rt; &reply[0..7], &[0, 2, 0, 0, 0, 2, 0]);
+    assert_eq!(rt; &reply[0..7], [0, 2, 0, 0, 0, 2, 0].as_slice());
     assert_eq!(rt;
         factory_start(&mut PackedMemory {
             octets: &mut [1; 2623],
