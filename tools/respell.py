@@ -21,8 +21,14 @@ MEMBER = re.compile(rf"^  (?:pub )?{NAME}\s*:(?!:)")
 LETTER = r"[\w'\-⊥⊎<>≤≡≢]"
 STRING = re.compile(r'"(?:[^"\\]|\\.)*"|//[^\n]*')
 LIBRARY = {"length", "getD", "get_or", "take", "drop", "set", "map"}
-# Lemmas that would have the name of the function that they are about; port.py has turned the third.
-LEMMAS = {"family-at": "family_at_lem", "by-id": "by_id_lem", "by_code": "by_code_lem"}
+# Lemmas that would have the name of the function that they are about, or of another; port.py has turned by_code.
+LEMMAS = {
+    "family-at": "family_at_lem",
+    "by-id": "by_id_lem",
+    "by_code": "by_code_lem",
+    "numbers-reply": "numbers_reply_lem",
+    "two-octets": "wide_columns",
+}
 
 
 def files(root):
@@ -34,12 +40,13 @@ def files(root):
 
 
 def declared(path):
-    """The names that a file of specs/ or proofs/ declares, but for the goals and invariants of a function's proof."""
+    """The names that a file of specs/ or proofs/ declares, but for the goals and invariants of a function's proof, and
+    whether each is a definition or a lemma, and no member."""
     inside = False
     with open(path, encoding="utf-8") as lines:
         for line in lines:
             kind = TYPE.match(line)
-            if kind:
+            if kind or line.startswith("module "):
                 inside = True
                 continue
             if line.strip() and not line[0].isspace():
@@ -49,11 +56,11 @@ def declared(path):
             found = DECLARED.match(line)
             if found:
                 if not found.group(2).startswith("goal."):
-                    yield found.group(1)
+                    yield found.group(1), True
                 continue
             found = MEMBER.match(line)
             if inside and found:
-                yield found.group(1)
+                yield found.group(1), False
 
 
 def snake(word):
@@ -72,9 +79,9 @@ def mapping(root):
     for path in files(root):
         if path.endswith(".antt"):
             here = set(declared(path))
-            names |= here
+            names |= {n for n, _ in here}
             if "/specs/" in path:
-                functions |= {n for n in here if not n[0].isupper() and "-" not in n}
+                functions |= {n for n, defined in here if defined and not n[0].isupper() and "-" not in n}
     out = {}
     for name in names:
         if name[0].isupper() or (name not in LEMMAS and not re.search(r"[a-z][A-Z]|-", name)):

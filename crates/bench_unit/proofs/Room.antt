@@ -36,11 +36,11 @@ front_room (accepted os) before after e h =
 front_room (refused r) before after e h =
     elim (unanswered r) as (λ v. length (cond v [] (refusal_octets r)) ≤ 1024) [ true ↦ omega arith | false ↦ omega arith ]
 
-step-answered :
+step_answered :
     (s t : Moment) (l : Lent) (octets : List ℕ) (o : Outcome) → Counts s → Roomy l → Step s l octets o t → Answered s octets o t
-step-answered s t l octets o n r (wrong_count m _ _) = absurd (m n)
-step-answered s t l octets o n r (no_room _ m _ _) = absurd (m r)
-step-answered s t l octets o n r (answered _ _ a) = a
+step_answered s t l octets o n r (wrong_count m _ _) = absurd (m n)
+step_answered s t l octets o n r (no_room _ m _ _) = absurd (m r)
+step_answered s t l octets o n r (answered _ _ a) = a
 
 pub asked :
     {s t : Moment} {l : Lent} {octets before after : List ℕ} {a : Answer}
@@ -48,7 +48,7 @@ pub asked :
 asked {s = s} {t = t} {l = l} {octets = octets} {before = before} {after = after} n r q =
     record {
       outcome = q.outcome;
-      answered = step-answered s t l octets q.outcome n r q.step;
+      answered = step_answered s t l octets q.outcome n r q.step;
       number = q.number;
       length = q.length;
       told = ap (λ k. take k after) q.length ∙ front q.outcome before after q.memory;

@@ -36,27 +36,27 @@ module _ (f : FamilyId) (cells body os before : List ℕ) (b : BlockOf f (layout
   in_table : InTable f b.spans
   in_table = spans_in_table f body 2 b.spans (length body) b.means.0
 
-  allowed-rows : EachOf (λ (u : ℕ). (layout_of f).allowed) (replicate (rows_in b.spans) 0) shown
-  allowed-rows = all_allowed (layout_of f).allowed (row_in cells f (layout_of f) b.spans) 0 (rows_in b.spans) (λ k a l. ok k (omega arith))
+  allowed_rows : EachOf (λ (u : ℕ). (layout_of f).allowed) (replicate (rows_in b.spans) 0) shown
+  allowed_rows = all_allowed (layout_of f).allowed (row_in cells f (layout_of f) b.spans) 0 (rows_in b.spans) (λ k a l. ok k (omega arith))
 
   read_back : (family_named.Means os 0 f 2) × BlockMeans f (layout_of f) os (writes_from f (layout_of f) b.spans 0 shown)
   read_back =
-      let k = block_back f (layout_of f) (layout_lawful f) b.spans shown in_table allowed-rows in
+      let k = block_back f (layout_of f) (layout_lawful f) b.spans shown in_table allowed_rows in
       subst (λ s. (family_named.Means s 0 f 2) × BlockMeans f (layout_of f) s (writes_from f (layout_of f) b.spans 0 shown)) (sym b.octets)
       (k.0, record { spans = b.spans; sent = shown; marks = k.1.0; means = k.1.1; writes = refl })
 
-  pub gone-over : (o : Outcome) (after : List ℕ) → SetBlockTo before os o after
+  pub gone_over : (o : Outcome) (after : List ℕ) → SetBlockTo before os o after
       → (o ≡ accepted (0 ∷ [])) × ((k : ℕ) → k < rows_in b.spans → row_in after f (layout_of f) b.spans k ≡ row_in cells f (layout_of f) b.spans k)
-  gone-over o after (faulty w e r a) = absurd (block_not_both os _ w f e read_back.0 read_back.1)
-  gone-over o after (taken g ws n m r t) =
+  gone_over o after (faulty w e r a) = absurd (block_not_both os _ w f e read_back.0 read_back.1)
+  gone_over o after (taken g ws n m r t) =
       let same : ws ≡ writes_from f (layout_of f) b.spans 0 shown = same_block f os ws _ (subst (λ h. BlockMeans h (layout_of h) os ws) (one_family os g f n read_back.0) m) read_back.1 in (
         r,
-        λ k l. rows-stored f (layout_of f) (layout_lawful f) (layout_ascending f) b.spans shown before after in_table allowed-rows (subst (λ us. Taken before us after) same t) k (row_in cells f (layout_of f) b.spans k) l
+        λ k l. rows-stored f (layout_of f) (layout_lawful f) (layout_ascending f) b.spans shown before after in_table allowed_rows (subst (λ us. Taken before us after) same t) k (row_in cells f (layout_of f) b.spans k) l
             ∙ get_or-map-range_with_len (row_in cells f (layout_of f) b.spans) 0 (rows_in b.spans) k k (row_in cells f (layout_of f) b.spans k) l (omega arith),
       )
 
 pub blocks_go_over : BlocksGoOver
-blocks_go_over f cells body os before o after n b ok s = gone-over f cells body os before b ok o after s
+blocks_go_over f cells body os before o after n b ok s = gone_over f cells body os before b ok o after s
 
 -- the rows of a table whose cells are all allowed are allowed
 pub allowed_blocks_go_over : AllowedBlocksGoOver

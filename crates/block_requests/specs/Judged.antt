@@ -17,7 +17,7 @@ IsBlock s ws = (f : FamilyId) × (family_named.Means s 0 f 2) × BlockMeans f (l
 pub record BlocksJudged : Type 0 where
   pub judged : (s : List ℕ) → ((ws : List StagedWrite) × IsBlock s ws) ⊎ ((w : Fault) × BlockFaults s w)
   pub one_block : (s : List ℕ) (vs ws : List StagedWrite) → IsBlock s vs → IsBlock s ws → vs ≡ ws
-  pub one-fault : (s : List ℕ) (v w : Fault) → BlockFaults s v → BlockFaults s w → v ≡ w
+  pub one_fault : (s : List ℕ) (v w : Fault) → BlockFaults s v → BlockFaults s w → v ≡ w
   pub not_both : (s : List ℕ) (ws : List StagedWrite) (w : Fault) → IsBlock s ws → BlockFaults s w → ⊥
 
 -- what a get block comes to is told by the table and the request alone

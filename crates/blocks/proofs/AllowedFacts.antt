@@ -14,7 +14,7 @@ use Rattle.values.specs.Numbers.{Allowed}
 use Rattle.values.specs.Lists.{ListAllowed}
 use Rattle.headers.specs.Headers.{row_at}
 use Rattle.blocks.specs.Layouts.{Slot, slot, offset, has_slot, has_slots, Layout, cells_at, columns_of, number_slots, numbers_layout, list_slots, first_octets, list_in, list_layout, both_layout}
-use Rattle.blocks.proofs.LayoutFacts.{both, slot-stands, slot-cell}
+use Rattle.blocks.proofs.LayoutFacts.{both, slot_stands, slot_cell}
 
 -- a row that stands in such a table is allowed
 abbrev pub Tells : {R : Type 0} → FamilyId → Layout R → Type 0
@@ -52,18 +52,18 @@ module _ (f : FamilyId) (cells : List ℕ) (x y : ℕ) (all : AllAllowed cells) 
   slot-holds s t =
       let p = place f x y s.column s.octet in
       let first = slot s.column 0 in
-      subst (λ n. holds p (get_or cells n 0) (value first) ≡ true) (slot-cell f x y stands s)
-      (subst (λ n. holds p (get_or cells (cell_of p) 0) (get_or cells n 0) ≡ true) (slot-cell f x y stands first) (all p (slot-stands f x y stands s t)))
+      subst (λ n. holds p (get_or cells n 0) (value first) ≡ true) (slot_cell f x y stands s)
+      (subst (λ n. holds p (get_or cells (cell_of p) 0) (get_or cells n 0) ≡ true) (slot_cell f x y stands first) (all p (slot_stands f x y stands s t)))
 
-  number-allowed : (n : ℕ) → T (has_slot f (slot n 0)) → is_list (column_of f n).kind ≡ false → Allowed (column_of f n) (value (slot n 0))
-  number-allowed n t e = sym (cond-false (is_list (column_of f n).kind) _ _ e) ∙ slot-holds (slot n 0) t
+  number_allowed : (n : ℕ) → T (has_slot f (slot n 0)) → is_list (column_of f n).kind ≡ false → Allowed (column_of f n) (value (slot n 0))
+  number_allowed n t e = sym (cond-false (is_list (column_of f n).kind) _ _ e) ∙ slot-holds (slot n 0) t
 
-  numbers-allowed : (ns : List ℕ) → T (has_slots f (number_slots ns)) → T (no_lists f ns) → EachOf Allowed (columns_of f ns) (map value (number_slots ns))
-  numbers-allowed [] t u = tt
-  numbers-allowed (n ∷ ns) t u =
+  numbers_allowed : (ns : List ℕ) → T (has_slots f (number_slots ns)) → T (no_lists f ns) → EachOf Allowed (columns_of f ns) (map value (number_slots ns))
+  numbers_allowed [] t u = tt
+  numbers_allowed (n ∷ ns) t u =
       let h = both (has_slot f (slot n 0)) (has_slots f (number_slots ns)) t in
       let k = both (not (is_list (column_of f n).kind)) (no_lists f ns) u in
-      (number-allowed n h.0 (is_not (is_list (column_of f n).kind) k.0), numbers-allowed ns h.1 k.1)
+      (number_allowed n h.0 (is_not (is_list (column_of f n).kind) k.0), numbers_allowed ns h.1 k.1)
 
   module _ (c : ℕ) (list : is_list (column_of f c).kind ≡ true) where
     octet-allowed : (o : ℕ) → T (has_slot f (slot c o)) → 1 ≤ o → o ≤ value (slot c 0) → Allowed (column_of f c) (value (slot c o))
@@ -90,22 +90,22 @@ module _ (f : FamilyId) (cells : List ℕ) (x y : ℕ) (all : AllAllowed cells) 
         (octets-allowed 1 16 n (omega arith) (omega arith) (omega arith) (both (has_slot f (slot c 0)) (has_slots f (map (slot c) (range_with_len 1 16))) t).1)
 
 pub numbers_tell : (f : FamilyId) (ns : List ℕ) → T (has_slots f (number_slots ns)) → T (no_lists f ns) → Tells f (numbers_layout f ns)
-numbers_tell f ns t u cells x y all stands = numbers-allowed f cells x y all stands ns t u
+numbers_tell f ns t u cells x y all stands = numbers_allowed f cells x y all stands ns t u
 
 pub list_tells : (f : FamilyId) (c : ℕ) → T (has_slots f (list_slots c)) → is_list (column_of f c).kind ≡ true → Tells f (list_layout f c)
 list_tells f c t list cells x y all stands = list-allowed f cells x y all stands c list t
 
 -- One part of a row, and then another.
 module _ (cells : List ℕ) (base : ℕ) (xs ys : List Slot) where
-  first-cells : take (length xs) (cells_at cells base (xs ++ ys)) ≡ cells_at cells base xs
-  first-cells = ap (take (length xs)) (map-append _ xs ys) ∙ take_at (cells_at cells base xs) (cells_at cells base ys) (length xs) (length-map xs _)
+  first_cells : take (length xs) (cells_at cells base (xs ++ ys)) ≡ cells_at cells base xs
+  first_cells = ap (take (length xs)) (map-append _ xs ys) ∙ take_at (cells_at cells base xs) (cells_at cells base ys) (length xs) (length-map xs _)
 
-  later-cells : drop (length xs) (cells_at cells base (xs ++ ys)) ≡ cells_at cells base ys
-  later-cells = ap (drop (length xs)) (map-append _ xs ys) ∙ drop_at (cells_at cells base xs) (cells_at cells base ys) (length xs) (length-map xs _)
+  later_cells : drop (length xs) (cells_at cells base (xs ++ ys)) ≡ cells_at cells base ys
+  later_cells = ap (drop (length xs)) (map-append _ xs ys) ∙ drop_at (cells_at cells base xs) (cells_at cells base ys) (length xs) (length-map xs _)
 
 pub both_tell : {A B : Type 0} (f : FamilyId) (a : Layout A) (b : Layout B) → Tells f a → Tells f b → Tells f (both_layout a b)
 both_tell f a b u v cells x y all stands =
     let base = cell_of (row_at f x y) in (
-      subst (λ vs. a.allowed (a.row_of vs)) (sym (first-cells cells base a.carried b.carried)) (u cells x y all stands),
-      subst (λ vs. b.allowed (b.row_of vs)) (sym (later-cells cells base a.carried b.carried)) (v cells x y all stands),
+      subst (λ vs. a.allowed (a.row_of vs)) (sym (first_cells cells base a.carried b.carried)) (u cells x y all stands),
+      subst (λ vs. b.allowed (b.row_of vs)) (sym (later_cells cells base a.carried b.carried)) (v cells x y all stands),
     )

@@ -10,43 +10,43 @@ use Rattle.replies.proofs.ReplyFacts.{wrote_more}
 use Rattle.values.specs.declared.Fault.{Fault}
 use Rattle.values.specs.declared.Fault.TheVariants.{Over}
 use Rattle.values.specs.Reading.{at_first, at_second, in_part, over, whole, Decided, Near, Reading, EachOf}
-use Rattle.values.proofs.Parts.{then-decided, then-near, whole-decided, whole-near, near_more}
+use Rattle.values.proofs.Parts.{then_decided, then_near, whole_decided, whole_near, near_more}
 use Rattle.headers.specs.declared.Spans.{Spans}
 use Rattle.headers.specs.Headers.{InTable, rows_in, row_at, row_place, spans_in, spans_of, count, count_octets, spans_octets, header_octets}
-use Rattle.headers.proofs.HeaderFacts.{spans_in_table, spans-decided, spans-near, exactly-decided, count-near, count-short}
+use Rattle.headers.proofs.HeaderFacts.{spans_in_table, spans_decided, spans_near, exactly_decided, count_near, count_short}
 use Rattle.blocks.specs.Layouts.{Layout, Lawful, Small, placed}
 use Rattle.blocks.specs.Rows.{rows, rows_octets, writes_from, Staged}
 use Rattle.blocks.specs.Blocks.{contents, block_octets, BlockMeans}
 use Rattle.blocks.proofs.LayoutFacts.{WriteFits, writes_fit}
-use Rattle.blocks.proofs.RowFacts.{few-rows, row_stands, rows-decided, rows_written, rows-near}
+use Rattle.blocks.proofs.RowFacts.{few_rows, row_stands, rows_decided, rows_written, rows_near}
 
 -- rows of the table fit, however many
-pub fits-rows : (f : FamilyId) (sp : Spans) (w most : ℕ) → InTable f sp → rows_of f * w ≤ most → rows_in sp * w ≤ most
-fits-rows f sp w most t h = omega (arith, h, mul-le-mul_right {m = rows_in sp} {n = rows_of f} w (few-rows f sp t))
+pub fits_rows : (f : FamilyId) (sp : Spans) (w most : ℕ) → InTable f sp → rows_of f * w ≤ most → rows_in sp * w ≤ most
+fits_rows f sp w most t h = omega (arith, h, mul-le-mul_right {m = rows_in sp} {n = rows_of f} w (few_rows f sp t))
 
 module _ {R : Type 0} (f : FamilyId) (l : Layout R) (s : List ℕ) (last : Place) (is : last ≡ row_at f (shape_of f).last_first (shape_of f).last_second) where
-  pub spans-meant : (sp : Spans) (mid : ℕ) → (spans_in last.first last.second).Means s 2 sp mid → (spans_of f).Means s 2 sp mid
-  spans-meant sp mid h = subst (λ (p : Place). (spans_in p.first p.second).Means s 2 sp mid) is h
+  pub spans_meant : (sp : Spans) (mid : ℕ) → (spans_in last.first last.second).Means s 2 sp mid → (spans_of f).Means s 2 sp mid
+  spans_meant sp mid h = subst (λ (p : Place). (spans_in p.first p.second).Means s 2 sp mid) is h
 
-  pub spans-missed : (w : Fault) → (spans_in last.first last.second).Faults s 2 w → (spans_of f).Faults s 2 w
-  spans-missed w h = subst (λ (p : Place). (spans_in p.first p.second).Faults s 2 w) is h
+  pub spans_missed : (w : Fault) → (spans_in last.first last.second).Faults s 2 w → (spans_of f).Faults s 2 w
+  spans_missed w h = subst (λ (p : Place). (spans_in p.first p.second).Faults s 2 w) is h
 
   pub in_table : (sp : Spans) (mid : ℕ) → (spans_in last.first last.second).Means s 2 sp mid → InTable f sp
-  in_table sp mid h = spans_in_table f s 2 sp mid (spans-meant sp mid h)
+  in_table sp mid h = spans_in_table f s 2 sp mid (spans_meant sp mid h)
 
   module _ (sp : Spans) (mid : ℕ) (h : (spans_in last.first last.second).Means s 2 sp mid) (n : ℕ) (rows_are : n ≡ rows_in sp) where
     pub count-missed : (w : Fault) → (count n).Faults s mid w → (contents f l).Faults s 2 w
-    count-missed w e = at_second sp mid (spans-meant sp mid h) (at_first (subst (λ m. (count m).Faults s mid w) rows_are e))
+    count-missed w e = at_second sp mid (spans_meant sp mid h) (at_first (subst (λ m. (count m).Faults s mid w) rows_are e))
 
     module _ (marks : List (Unit {0})) (from : ℕ) (k : (count n).Means s mid marks from) where
       counted : (count (rows_in sp)).Means s mid marks from
       counted = subst (λ m. (count m).Means s mid marks from) rows_are k
 
       pub rows-missed : (w : Fault) → (rows l.reading (rows_in sp)).Faults s from w → (contents f l).Faults s 2 w
-      rows-missed w e = at_second sp mid (spans-meant sp mid h) (at_second marks from counted (in_part e))
+      rows-missed w e = at_second sp mid (spans_meant sp mid h) (at_second marks from counted (in_part e))
 
       pub rows-over : (before after : List StagedWrite) (end : ℕ) → Staged f l sp (rows_in sp) s from before after end → end < length s → (contents f l).Faults s 2 (Over end)
-      rows-over before after end g less = at_second sp mid (spans-meant sp mid h) (at_second marks from counted (over g.meant end g.means less refl))
+      rows-over before after end g less = at_second sp mid (spans_meant sp mid h) (at_second marks from counted (over g.meant end g.means less refl))
 
       pub block-meant : (after : List StagedWrite) (end : ℕ) → Staged f l sp (rows_in sp) s from [] after end → end ≤ length s → length s ≤ end → BlockMeans f l s after
       block-meant after end g within all =
@@ -55,22 +55,22 @@ module _ {R : Type 0} (f : FamilyId) (l : Layout R) (s : List ℕ) (last : Place
             spans = sp;
             sent = g.meant;
             marks = marks;
-            means = record { mid = mid; one = spans-meant sp mid h; two = record { mid = from; one = counted; two = (subst (λ j. (rows l.reading (rows_in sp)).Means s from g.meant j) e g.means, omega arith) } };
+            means = record { mid = mid; one = spans_meant sp mid h; two = record { mid = from; one = counted; two = (subst (λ j. (rows l.reading (rows_in sp)).Means s from g.meant j) e g.means, omega arith) } };
             writes = g.added;
           }
 
 module _ {R : Type 0} (f : FamilyId) (l : Layout R) (lawful : Lawful f l) where
-  pub contents-decided : Decided (contents f l)
-  contents-decided =
-      then-decided (spans-decided (shape_of f).last_first (shape_of f).last_second)
-      (λ sp. then-decided (exactly-decided (count_octets (rows_in sp))) (λ u. whole-decided (rows-decided lawful.decided (rows_in sp))))
+  pub contents_decided : Decided (contents f l)
+  contents_decided =
+      then_decided (spans_decided (shape_of f).last_first (shape_of f).last_second)
+      (λ sp. then_decided (exactly_decided (count_octets (rows_in sp))) (λ u. whole_decided (rows_decided lawful.decided (rows_in sp))))
 
   -- a block and its faults lie within 1,023 octets
-  pub contents-near : Small f l → Near (contents f l) 1021
-  contents-near small =
-      then-near {m = 4} {n = 1017} (spans-near (shape_of f).last_first (shape_of f).last_second)
-      (λ s i sp mid h. then-near {m = 3} {n = 1014} (count-near (rows_in sp))
-      (λ t j u from k. whole-near (near_more (fits-rows f sp l.most 1014 (spans_in_table f s i sp mid h) small.reply) (rows-near lawful.near (rows_in sp)))))
+  pub contents_near : Small f l → Near (contents f l) 1021
+  contents_near small =
+      then_near {m = 4} {n = 1017} (spans_near (shape_of f).last_first (shape_of f).last_second)
+      (λ s i sp mid h. then_near {m = 3} {n = 1014} (count_near (rows_in sp))
+      (λ t j u from k. whole_near (near_more (fits_rows f sp l.most 1014 (spans_in_table f s i sp mid h) small.reply) (rows_near lawful.near (rows_in sp)))))
 
 -- every write of the list fits
 abbrev AllFit : List StagedWrite → Type 0
@@ -92,8 +92,8 @@ module _ {R : Type 0} (f : FamilyId) (l : Layout R) (lawful : Lawful f l) where
       (rows_fit sp t q (i + 1) rs (omega arith) ok.1) k less
 
   -- the table has the cells of a block's writes, and they take the values
-  pub block-fits : (s : List ℕ) (ws : List StagedWrite) → BlockMeans f l s ws → (k : ℕ) → k < length ws → WriteFits (get_or ws k (record { cell = 0; value = 0 }))
-  block-fits s ws h =
+  pub block_fits : (s : List ℕ) (ws : List StagedWrite) → BlockMeans f l s ws → (k : ℕ) → k < length ws → WriteFits (get_or ws k (record { cell = 0; value = 0 }))
+  block_fits s ws h =
       let sp = h.spans in
       let m = h.means in
       let ok = (rows_written lawful.written (rows_in sp)).ok s m.two.mid h.sent (length s) m.two.two.0 in

@@ -37,38 +37,38 @@ staged_next base xs vs x v cell before mid after n e h t =
     ∙ ap (λ t. before ++ t) (sym (placed_push base xs vs x v n))
 
 module _ (base : ℕ) (columns vs : List ℕ) (i : ℕ) (before : List StagedWrite) where
-  pub number-staged : (mid after : List StagedWrite) → i < length columns → i < length vs
+  pub number_staged : (mid after : List StagedWrite) → i < length columns → i < length vs
       → mid ≡ before ++ placed base (number_slots (take i columns)) (take i vs)
       → after ≡ mid ++ write (base + (get_or columns i 0 - 1)) (get_or vs i 0) ∷ []
       → after ≡ before ++ placed base (number_slots (take (i + 1) columns)) (take (i + 1) vs)
-  number-staged mid after l m h t =
+  number_staged mid after l m h t =
       let n : length (number_slots (take i columns)) ≡ length (take i vs) =
       length-map (take i columns) (λ n. slot n 0) ∙ length-take-le i columns (omega arith) ∙ sym (length-take-le i vs (omega arith)) in
       staged_next base (number_slots (take i columns)) (take i vs) (slot (get_or columns i 0) 0) (get_or vs i 0) _ before mid after n (omega arith) h t
       ∙ sym (λ j. before ++ placed base (map_more (λ n. slot n 0) columns i 0 l j) (take_more vs i 0 m j))
 
-  pub numbers-staged : (after : List StagedWrite) → length columns ≤ i → length columns ≡ length vs
+  pub numbers_staged : (after : List StagedWrite) → length columns ≤ i → length columns ≡ length vs
       → after ≡ before ++ placed base (number_slots (take i columns)) (take i vs) → after ≡ before ++ placed base (number_slots columns) vs
-  numbers-staged after l e h = h ∙ (λ j. before ++ placed base (number_slots (take_all i columns l j)) (take_all i vs (omega arith) j))
+  numbers_staged after l e h = h ∙ (λ j. before ++ placed base (number_slots (take_all i columns l j)) (take_all i vs (omega arith) j))
 
 -- the octets of a list, after its length
 abbrev pub octet_slots : ℕ → ℕ → List Slot
 octet_slots column n = map (slot column) (range_with_len 1 n)
 
 module _ (base column : ℕ) (vs : List ℕ) (i : ℕ) (before : List StagedWrite) where
-  pub octet-staged : (mid after : List StagedWrite) → i < length vs → mid ≡ before ++ placed base (octet_slots column i) (take i vs)
+  pub octet_staged : (mid after : List StagedWrite) → i < length vs → mid ≡ before ++ placed base (octet_slots column i) (take i vs)
       → after ≡ mid ++ write (base + (column - 1) + (i + 1)) (get_or vs i 0) ∷ []
       → after ≡ before ++ placed base (octet_slots column (i + 1)) (take (i + 1) vs)
-  octet-staged mid after l h t =
+  octet_staged mid after l h t =
       let n : length (octet_slots column i) ≡ length (take i vs) = length-map-range_with_len (slot column) 1 i ∙ sym (length-take-le i vs (omega arith)) in
       staged_next base (octet_slots column i) (take i vs) (slot column (1 + i)) (get_or vs i 0) _ before mid after n (omega arith) h t
       ∙ sym (λ j. before ++ placed base (map-range_with_len_more (slot column) 1 i (1 + i) refl j) (take_more vs i 0 l j))
 
-  pub list-staged : (len : ℕ) (first after : List StagedWrite) → 16 ≤ i → i ≤ 16 → length vs ≡ 16
+  pub list_staged : (len : ℕ) (first after : List StagedWrite) → 16 ≤ i → i ≤ 16 → length vs ≡ 16
       → first ≡ before ++ write (base + (column - 1)) len ∷ []
       → after ≡ first ++ placed base (octet_slots column i) (take i vs)
       → after ≡ before ++ placed base (list_slots column) (len ∷ vs)
-  list-staged len first after l m e f h =
+  list_staged len first after l m e f h =
       let n : i ≡ 16 = omega arith in
       let c : base + (column - 1) ≡ base + offset (slot column 0) = omega arith in
       h
@@ -77,18 +77,18 @@ module _ (base column : ℕ) (vs : List ℕ) (i : ℕ) (before : List StagedWrit
       ∙ ap (λ t. before ++ write t len ∷ placed base (octet_slots column 16) vs) c
 
 module _ (cells : List ℕ) (base : ℕ) (columns out : List ℕ) (i : ℕ) where
-  pub number-loaded : (v : ℕ) → i < length columns → i < length out → take i out ≡ cells_at cells base (number_slots (take i columns))
+  pub number_loaded : (v : ℕ) → i < length columns → i < length out → take i out ≡ cells_at cells base (number_slots (take i columns))
       → v ≡ get_or cells (base + (get_or columns i 0 - 1)) 0 → take (i + 1) (set out i v) ≡ cells_at cells base (number_slots (take (i + 1) columns))
-  number-loaded v l m h e =
+  number_loaded v l m h e =
       let c : get_or columns i 0 - 1 ≡ offset (slot (get_or columns i 0) 0) = omega arith in
       take_more_set out i v m
       ∙ (λ j. h j ++ (e ∙ ap (λ n. get_or cells (base + n) 0) c) j ∷ [])
       ∙ sym (map_push _ (number_slots (take i columns)) (slot (get_or columns i 0) 0))
       ∙ ap (cells_at cells base) (sym (map_more (λ n. slot n 0) columns i 0 l))
 
-  pub numbers-loaded : length columns ≤ i → length columns ≡ length out → take i out ≡ cells_at cells base (number_slots (take i columns))
+  pub numbers_loaded : length columns ≤ i → length columns ≡ length out → take i out ≡ cells_at cells base (number_slots (take i columns))
       → out ≡ cells_at cells base (number_slots columns)
-  numbers-loaded l e h = sym (take_all i out (omega arith)) ∙ h ∙ ap (λ ns. cells_at cells base (number_slots ns)) (take_all i columns l)
+  numbers_loaded l e h = sym (take_all i out (omega arith)) ∙ h ∙ ap (λ ns. cells_at cells base (number_slots ns)) (take_all i columns l)
 
 -- the first so many octets of a list of zeros are loaded
 pub list_loaded : (cells : List ℕ) (base column len : ℕ) (out : List ℕ)

@@ -17,9 +17,9 @@ use Rattle.values.specs.declared.phases.PhaseList.{PhaseList}
 use Rattle.values.specs.Reading.{EachOf}
 use Rattle.values.specs.Numbers.{Allowed, Fits, size}
 use Rattle.values.specs.Lists.{ListAllowed, ListFits}
-use Rattle.values.proofs.Parts.{then-decided, then-written, then-near, seen-decided, seen-written, seen-near, each-of-length, each-of-append, each-of-parts}
-use Rattle.values.proofs.Table.{numbers-decided, numbers-written, numbers-near, numbers-short}
-use Rattle.values.proofs.PhaseLists.{phases-decided, phases-written, phases-near, list-short}
+use Rattle.values.proofs.Parts.{then_decided, then-written, then_near, seen_decided, seen-written, seen_near, each_of_length, each_of_append, each_of_parts}
+use Rattle.values.proofs.Table.{numbers_decided, numbers-written, numbers_near, numbers_short}
+use Rattle.values.proofs.PhaseLists.{phases_decided, phases-written, phases_near, list_short}
 use Rattle.blocks.specs.Layouts.{Slot, slot, offset, has_slot, has_slots, Holds, Layout, Lawful, cells_at, placed, columns_of, number_slots, numbers_layout, list_slots, first_octets, list_in, list_layout, both_layout, as_row}
 
 pub both : (a b : Bool) → T (a && b) → T a × T b
@@ -52,8 +52,8 @@ module _ (f : FamilyId) (x : Slot) (t : T (has_slot f x)) where
   within = ltb→lt x.octet (cells_of (column_of f x.column)) rest.1
 
   -- an allowed value fits
-  allowed-fits : (v : ℕ) → Allowed (column_of f x.column) v → Fits (column_of f x.column) v
-  allowed-fits v a = allowed_bound (column_of f x.column).kind (column_of f x.column) v (greatest_fits f x.column least last) a
+  allowed_fits : (v : ℕ) → Allowed (column_of f x.column) v → Fits (column_of f x.column) v
+  allowed_fits v a = allowed_bound (column_of f x.column).kind (column_of f x.column) v (greatest_fits f x.column least last) a
 
 -- the cells of two lists, one after the other
 has_append : (f : FamilyId) (xs ys : List Slot) → T (has_slots f xs) → T (has_slots f ys) → T (has_slots f (xs ++ ys))
@@ -67,14 +67,14 @@ numbers-held f [] (x ∷ xs) t h = absurd h
 numbers-held f (n ∷ ns) [] t h = absurd h
 numbers-held f (n ∷ ns) (x ∷ xs) t h =
     let u = both (has_slot f (slot n 0)) (has_slots f (number_slots ns)) t in
-    (allowed-fits f (slot n 0) u.0 x h.0, numbers-held f ns xs u.1 h.1)
+    (allowed_fits f (slot n 0) u.0 x h.0, numbers-held f ns xs u.1 h.1)
 
 pub numbers_lawful : (f : FamilyId) (ns : List ℕ) → T (has_slots f (number_slots ns)) → Lawful f (numbers_layout f ns)
 numbers_lawful f ns t = record {
-  decided = numbers-decided (columns_of f ns);
+  decided = numbers_decided (columns_of f ns);
   written = numbers-written (columns_of f ns);
-  near = numbers-near (columns_of f ns);
-  short = λ xs h. numbers-short (columns_of f ns) xs;
+  near = numbers_near (columns_of f ns);
+  short = λ xs h. numbers_short (columns_of f ns) xs;
   stand = t;
   held = λ xs h. numbers-held f ns xs t h;
   back = λ xs h. refl;
@@ -82,27 +82,27 @@ numbers_lawful f ns t = record {
 }
 
 -- A list: its length and its octets are values of one column.
-small-fits : (c : Column) (v : ℕ) → v ≤ 16 → Fits c v
-small-fits c v h = cond_both (eqb c.width 2) 65535 255 (λ t. v ≤ t) (λ e. omega arith) (λ e. omega arith)
+small_fits : (c : Column) (v : ℕ) → v ≤ 16 → Fits c v
+small_fits c v h = cond_both (eqb c.width 2) 65535 255 (λ t. v ≤ t) (λ e. omega arith) (λ e. omega arith)
 
 zeros_fit : (c : Column) (n : ℕ) → EachOf Fits (replicate n c) (replicate n 0)
 zeros_fit c zero = tt
-zeros_fit c (suc n) = (small-fits c 0 (omega arith), zeros_fit c n)
+zeros_fit c (suc n) = (small_fits c 0 (omega arith), zeros_fit c n)
 
 each_fits : (f : FamilyId) (x : Slot) → T (has_slot f x) → (n : ℕ) (vs : List ℕ)
     → EachOf Allowed (replicate n (column_of f x.column)) vs → EachOf Fits (replicate n (column_of f x.column)) vs
 each_fits f x t zero [] h = tt
 each_fits f x t zero (v ∷ vs) h = absurd h
 each_fits f x t (suc n) [] h = absurd h
-each_fits f x t (suc n) (v ∷ vs) h = (allowed-fits f x t v h.0, each_fits f x t n vs h.1)
+each_fits f x t (suc n) (v ∷ vs) h = (allowed_fits f x t v h.0, each_fits f x t n vs h.1)
 
 -- sixteen octets, the first of them and the rest
 columns_split : (c : Column) (n : ℕ) → n ≤ 16 → replicate n c ++ replicate (16 - n) c ≡ replicate 16 c
 columns_split c n few = replicate-append-replicate n (16 - n) c ∙ let e : n + (16 - n) ≡ 16 = omega arith in ap (λ m. replicate m c) e
 
 module _ (f : FamilyId) (c : ℕ) where
-  len-few : (l : PhaseList) → ListAllowed (column_of f c) l → l.len ≤ 16
-  len-few l a = leb-true l.len 16 (and_parts _ _ a.0.0).1
+  len_few : (l : PhaseList) → ListAllowed (column_of f c) l → l.len ≤ 16
+  len_few l a = leb-true l.len 16 (and_parts _ _ a.0.0).1
 
   -- an allowed list is its first octets, and zeros
   padded : (l : PhaseList) → ListAllowed (column_of f c) l → first_octets l.len l.phases ≡ l.phases
@@ -113,13 +113,13 @@ module _ (f : FamilyId) (c : ℕ) where
       let k = column_of f c in
       let n = l.len in
       let has = (both (has_slot f (slot c 0)) _ t).0 in
-      let all = each-of-append Fits (replicate n k) (replicate (16 - n) k) (take n l.phases) (replicate (16 - n) 0) (each_fits f (slot c 0) has n (take n l.phases) a.0.1) (zeros_fit k (16 - n)) in
+      let all = each_of_append Fits (replicate n k) (replicate (16 - n) k) (take n l.phases) (replicate (16 - n) 0) (each_fits f (slot c 0) has n (take n l.phases) a.0.1) (zeros_fit k (16 - n)) in
       each_of_other Fits (Holds f) (λ o. k) (slot c) (λ o v h. h) (range_with_len 0 17) (l.len ∷ l.phases)
-      (small-fits k n (len-few l a), subst (λ xs. EachOf Fits (replicate 16 k) xs) (padded l a) (subst (λ cs. EachOf Fits cs (first_octets n l.phases)) (columns_split k n (len-few l a)) all))
+      (small_fits k n (len_few l a), subst (λ xs. EachOf Fits (replicate 16 k) xs) (padded l a) (subst (λ cs. EachOf Fits cs (first_octets n l.phases)) (columns_split k n (len_few l a)) all))
 
   list_back : (l : PhaseList) → ListAllowed (column_of f c) l → list_in (l.len ∷ l.phases) ≡ l
   list_back l a =
-      let e : min 16 l.len ≡ l.len = min-eq_right (len-few l a) in
+      let e : min 16 l.len ≡ l.len = min-eq_right (len_few l a) in
       let h : first_octets (min 16 l.len) l.phases ≡ l.phases = ap (λ n. first_octets n l.phases) e ∙ padded l a in
       (λ j. record { len = e j; phases = h j })
 
@@ -130,17 +130,17 @@ module _ (f : FamilyId) (c : ℕ) where
       let n = min 16 v in
       let few : n ≤ 16 = omega arith in
       let all = (each_of_other (Holds f) Fits (slot c) (λ o. k) (λ o v h. h) (range_with_len 0 17) (v ∷ vs) h).1 in
-      let first = (each-of-parts Fits (replicate n k) (replicate (16 - n) k) vs (subst (λ cs. EachOf Fits cs vs) (sym (columns_split k n few)) all)).0 in
-      let long : length (take n vs) ≡ n = length-take-le n vs (omega (arith, each-of-length Fits (replicate 16 k) vs all)) in
+      let first = (each_of_parts Fits (replicate n k) (replicate (16 - n) k) vs (subst (λ cs. EachOf Fits cs vs) (sym (columns_split k n few)) all)).0 in
+      let long : length (take n vs) ≡ n = length-take-le n vs (omega (arith, each_of_length Fits (replicate 16 k) vs all)) in
       let e : take (length (replicate n k)) vs ≡ take n (first_octets n vs) = ap (λ m. take m vs) (length-replicate n k) ∙ sym (take_at (take n vs) (replicate (16 - n) 0) n long) in
       (few, subst (λ xs. EachOf Fits (replicate n k) xs) e first)
 
   pub list_lawful : T (has_slots f (list_slots c)) → size (column_of f c) ≡ 1 → Lawful f (list_layout f c)
   list_lawful t one = record {
-    decided = phases-decided (column_of f c);
+    decided = phases_decided (column_of f c);
     written = phases-written (column_of f c);
-    near = phases-near (column_of f c) one;
-    short = list-short (column_of f c) one;
+    near = phases_near (column_of f c) one;
+    short = list_short (column_of f c) one;
     stand = t;
     held = list_held t;
     back = list_back;
@@ -150,28 +150,28 @@ module _ (f : FamilyId) (c : ℕ) where
 -- One part of a row, and then another.
 pub both_lawful : {A B : Type 0} {f : FamilyId} {a : Layout A} {b : Layout B} → Lawful f a → Lawful f b → Lawful f (both_layout a b)
 both_lawful {f = f} {a = a} {b = b} u v = record {
-  decided = then-decided u.decided (λ x. v.decided);
+  decided = then_decided u.decided (λ x. v.decided);
   written = then-written u.written (λ x. v.written);
-  near = then-near u.near (λ s i x mid h. v.near);
+  near = then_near u.near (λ s i x mid h. v.near);
   short = λ p h. omega (arith, length-append (a.octets p.0) (b.octets p.1), u.short p.0 h.0, v.short p.1 h.1);
   stand = has_append f a.carried b.carried u.stand v.stand;
-  held = λ p h. each-of-append (Holds f) a.carried b.carried (a.values p.0) (b.values p.1) (u.held p.0 h.0) (v.held p.1 h.1);
+  held = λ p h. each_of_append (Holds f) a.carried b.carried (a.values p.0) (b.values p.1) (u.held p.0 h.0) (v.held p.1 h.1);
   back = λ p h.
-      let n = each-of-length (Holds f) a.carried (a.values p.0) (u.held p.0 h.0) in
+      let n = each_of_length (Holds f) a.carried (a.values p.0) (u.held p.0 h.0) in
       let x = ap a.row_of (take_at (a.values p.0) (b.values p.1) (length a.carried) n) ∙ u.back p.0 h.0 in
       let y = ap b.row_of (drop_at (a.values p.0) (b.values p.1) (length a.carried) n) ∙ v.back p.1 h.1 in
       (λ j. (x j, y j));
   loaded = λ vs h.
-      let g = each-of-parts (Holds f) a.carried b.carried vs h in
+      let g = each_of_parts (Holds f) a.carried b.carried vs h in
       (u.loaded (take (length a.carried) vs) g.0, v.loaded (drop (length a.carried) vs) g.1);
 }
 
 -- The same, as a row of a family's own kind.
 pub row_lawful : {Q R : Type 0} {f : FamilyId} {l : Layout R} (of : Q → R) (made : R → Q) → ((r : R) → of (made r) ≡ r) → ((q : Q) → made (of q) ≡ q) → Lawful f l → Lawful f (as_row of made l)
 row_lawful {l = l} of made there back u = record {
-  decided = seen-decided of u.decided made there back;
+  decided = seen_decided of u.decided made there back;
   written = seen-written of u.written;
-  near = seen-near of u.near;
+  near = seen_near of u.near;
   short = λ q. u.short (of q);
   stand = u.stand;
   held = λ q. u.held (of q);
@@ -204,45 +204,45 @@ module _ (f : FamilyId) (x y : ℕ) (stands : Stands (place f x y 1 0)) where
   abbrev base : ℕ
   base = cell_of (place f x y 1 0)
 
-  pub slot-stands : (s : Slot) → T (has_slot f s) → Stands (place f x y s.column s.octet)
-  slot-stands s t = record {
-    first-least = stands.first-least;
-    first-last = stands.first-last;
-    second-least = stands.second-least;
-    second-last = stands.second-last;
-    column-least = least f s t;
-    column-last = last f s t;
-    octet-within = within f s t;
+  pub slot_stands : (s : Slot) → T (has_slot f s) → Stands (place f x y s.column s.octet)
+  slot_stands s t = record {
+    first_least = stands.first_least;
+    first_last = stands.first_last;
+    second_least = stands.second_least;
+    second_last = stands.second_last;
+    column_least = least f s t;
+    column_last = last f s t;
+    octet_within = within f s t;
   }
 
-  pub slot-cell : (s : Slot) → cell_of (place f x y s.column s.octet) ≡ base + offset s
+  pub slot_cell : (s : Slot) → cell_of (place f x y s.column s.octet) ≡ base + offset s
   unfolding cell_of
-  slot-cell s = omega arith
+  slot_cell s = omega arith
 
-  slot-fits : (s : Slot) → T (has_slot f s) → SlotFits f base s
-  slot-fits s t =
+  slot_fits : (s : Slot) → T (has_slot f s) → SlotFits f base s
+  slot_fits s t =
       let p = place f x y s.column s.octet in
-      let h = slot-stands s t in (
+      let h = slot_stands s t in (
         in_row p h,
-        omega (arith, cell_below p h, slot-cell s),
-        ap top_of (sym (slot-cell s)) ∙ tops_by_width p h,
+        omega (arith, cell_below p h, slot_cell s),
+        ap top_of (sym (slot_cell s)) ∙ tops_by_width p h,
       )
 
-  pub slots-fit : (slots : List Slot) → T (has_slots f slots) → (k : ℕ) → k < length slots → SlotFits f base (get_or slots k (slot 0 0))
-  slots-fit [] t k l = absurd (omega arith)
-  slots-fit (s ∷ slots) t zero l = slot-fits s (both (has_slot f s) (has_slots f slots) t).0
-  slots-fit (s ∷ slots) t (suc k) l = slots-fit slots (both (has_slot f s) (has_slots f slots) t).1 k (omega arith)
+  pub slots_fit : (slots : List Slot) → T (has_slots f slots) → (k : ℕ) → k < length slots → SlotFits f base (get_or slots k (slot 0 0))
+  slots_fit [] t k l = absurd (omega arith)
+  slots_fit (s ∷ slots) t zero l = slot_fits s (both (has_slot f s) (has_slots f slots) t).0
+  slots_fit (s ∷ slots) t (suc k) l = slots_fit slots (both (has_slot f s) (has_slots f slots) t).1 k (omega arith)
 
-  pub cells-held : (cells : List ℕ) → Bounded cells → (slots : List Slot) → T (has_slots f slots) → EachOf (Holds f) slots (cells_at cells base slots)
-  cells-held cells low [] t = tt
-  cells-held cells low (s ∷ slots) t =
+  pub cells_held : (cells : List ℕ) → Bounded cells → (slots : List Slot) → T (has_slots f slots) → EachOf (Holds f) slots (cells_at cells base slots)
+  cells_held cells low [] t = tt
+  cells_held cells low (s ∷ slots) t =
       let h = both (has_slot f s) (has_slots f slots) t in
-      (omega (arith, low (base + offset s), (slot-fits s h.0).2), cells-held cells low slots h.1)
+      (omega (arith, low (base + offset s), (slot_fits s h.0).2), cells_held cells low slots h.1)
 
   pub writes_fit : (slots : List Slot) (vs : List ℕ) → T (has_slots f slots) → EachOf (Holds f) slots vs → (k : ℕ) → k < length (placed base slots vs) → WriteFits (get_or (placed base slots vs) k no_write)
   writes_fit [] vs t h k l = absurd (omega arith)
   writes_fit (s ∷ slots) [] t h k l = absurd h
   writes_fit (s ∷ slots) (v ∷ vs) t h zero l =
-      let g = slot-fits s (both (has_slot f s) (has_slots f slots) t).0 in
+      let g = slot_fits s (both (has_slot f s) (has_slots f slots) t).0 in
       (g.1, omega (arith, h.0, g.2))
   writes_fit (s ∷ slots) (v ∷ vs) t h (suc k) l = writes_fit slots vs (both (has_slot f s) (has_slots f slots) t).1 h.1 k (omega arith)

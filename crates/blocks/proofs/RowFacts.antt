@@ -12,35 +12,35 @@ use Rattle.tables.specs.declared.place.Place.{Place}
 use Rattle.tables.specs.declared.work.StagedWrite.{StagedWrite}
 use Rattle.tables.specs.Families.{shape_of, rows_of, cells_of, column_of, cells_end}
 use Rattle.tables.specs.Places.{Stands, cell_of, rows_before}
-use Rattle.tables.proofs.PlaceFacts.{cell-is, row_of, sizes, last_list}
+use Rattle.tables.proofs.PlaceFacts.{cell_is, row_of, sizes, last_list}
 use Rattle.values.specs.declared.Fault.{Fault}
 use Rattle.values.specs.Reading.{Reading, Decided, Written, Near, EachMeans, EachFaults, EachOf, each_octets}
-use Rattle.values.proofs.Parts.{each_append, each_after, each-length, each-decided, each-written, octets_append, each-near, near_more, total-same}
+use Rattle.values.proofs.Parts.{each_append, each_after, each-length, each_decided, each-written, octets_append, each_near, near_more, total_same}
 use Rattle.headers.specs.declared.Spans.{Spans}
 use Rattle.headers.specs.Headers.{InTable, rows_in, row_at, row_place}
 use Rattle.blocks.specs.Layouts.{Layout, placed, cells_at}
 use Rattle.blocks.specs.Rows.{rows, rows_octets, row_in, rows_shown, writes_from, Staged}
 
 -- the second index of a row is in the table
-pub second-within : (f : FamilyId) (sp : Spans) (k : ℕ) → InTable f sp → k < rows_in sp → k / sp.first.quantity < sp.second.quantity
-second-within f sp k t l = div_below k sp.first.quantity sp.second.quantity (omega (arith, t.first_some)) (omega (arith, l, mul_comm sp.first.quantity sp.second.quantity))
+pub second_within : (f : FamilyId) (sp : Spans) (k : ℕ) → InTable f sp → k < rows_in sp → k / sp.first.quantity < sp.second.quantity
+second_within f sp k t l = div_below k sp.first.quantity sp.second.quantity (omega (arith, t.first_some)) (omega (arith, l, mul_comm sp.first.quantity sp.second.quantity))
 
 one_cell : (f : FamilyId) → 0 < cells_of (column_of f 1)
-one_cell f = elim (last_list f 1 (omega arith) (sizes f).columns-least) [ inl e ↦ omega (arith, e) | inr e ↦ omega (arith, e.2) ]
+one_cell f = elim (last_list f 1 (omega arith) (sizes f).columns_least) [ inl e ↦ omega (arith, e) | inr e ↦ omega (arith, e.2) ]
 
 -- every row of a block that lies in the table stands there
 pub row_stands : (f : FamilyId) (sp : Spans) (k : ℕ) → InTable f sp → k < rows_in sp → Stands (row_place f sp k)
 row_stands f sp k t l =
     let m = mod_below k sp.first.quantity (omega (arith, t.first_some)) in
-    let d = second-within f sp k t l in
+    let d = second_within f sp k t l in
     record {
-      first-least = omega (arith, t.first-least);
-      first-last = omega (arith, t.first-last, m);
-      second-least = omega (arith, t.second-least);
-      second-last = omega (arith, t.second-last, d);
-      column-least = omega arith;
-      column-last = (sizes f).columns-least;
-      octet-within = one_cell f;
+      first_least = omega (arith, t.first_least);
+      first_last = omega (arith, t.first_last, m);
+      second_least = omega (arith, t.second_least);
+      second_last = omega (arith, t.second_last, d);
+      column_least = omega arith;
+      column_last = (sizes f).columns_least;
+      octet_within = one_cell f;
     }
 
 -- a row's cells are all in the table
@@ -49,12 +49,12 @@ row_within f x y s =
     let p = row_at f x y in
     let w = (shape_of f).row_cells in
     let k = mul-le-mul_right {m = rows_before p + 1} {n = rows_of f} w (omega (arith, row_of p s)) in
-    omega (arith, cell-is p, k, add-mul (rows_before p) 1 w, one-mul w, (sizes f).ends)
+    omega (arith, cell_is p, k, add-mul (rows_before p) 1 w, one-mul w, (sizes f).ends)
 
-pub few-rows : (f : FamilyId) (sp : Spans) → InTable f sp → rows_in sp ≤ rows_of f
-few-rows f sp t =
-    let firsts : sp.first.quantity ≤ (shape_of f).last_first = omega (arith, t.first-least, t.first-last) in
-    let seconds : sp.second.quantity ≤ max 1 (shape_of f).last_second = omega (arith, t.second-least, t.second-last) in
+pub few_rows : (f : FamilyId) (sp : Spans) → InTable f sp → rows_in sp ≤ rows_of f
+few_rows f sp t =
+    let firsts : sp.first.quantity ≤ (shape_of f).last_first = omega (arith, t.first_least, t.first_last) in
+    let seconds : sp.second.quantity ≤ max 1 (shape_of f).last_second = omega (arith, t.second_least, t.second_last) in
     mul-le-mul firsts seconds
 
 -- room for one row more
@@ -98,25 +98,25 @@ module _ {R : Type 0} (f : FamilyId) (l : Layout R) (sp : Spans) where
 
 -- rows shown and written, one more
 module _ {R : Type 0} (octets : R → List ℕ) (row : ℕ → R) where
-  pub shown-more : (k : ℕ) → map row (range_with_len 0 (k + 1)) ≡ map row (range_with_len 0 k) ++ row k ∷ []
-  shown-more k = map-range_with_len_more row 0 k k (omega arith)
+  pub shown_more : (k : ℕ) → map row (range_with_len 0 (k + 1)) ≡ map row (range_with_len 0 k) ++ row k ∷ []
+  shown_more k = map-range_with_len_more row 0 k k (omega arith)
 
   pub octets_more : (k : ℕ) → rows_octets octets (k + 1) (map row (range_with_len 0 (k + 1))) ≡ rows_octets octets k (map row (range_with_len 0 k)) ++ octets (row k)
   octets_more k =
-      ap (rows_octets octets (k + 1)) (shown-more k)
+      ap (rows_octets octets (k + 1)) (shown_more k)
       ∙ (ap (λ us. each_octets (λ (u : ℕ). octets) us (map row (range_with_len 0 k) ++ row k ∷ [])) (sym (replicate_more k 0))
       ∙ (octets_append (λ (u : ℕ). octets) (replicate k 0) (0 ∷ []) (map row (range_with_len 0 k)) (row k ∷ []) (length-map-range_with_len row 0 k ∙ sym (length-replicate k 0))
       ∙ ap (λ t. rows_octets octets k (map row (range_with_len 0 k)) ++ t) (append-nil (octets (row k)))))
 
-pub rows-decided : {R : Type 0} {rd : Reading R} → Decided rd → (q : ℕ) → Decided (rows rd q)
-rows-decided d q = each-decided (λ u. d) (replicate q 0)
+pub rows_decided : {R : Type 0} {rd : Reading R} → Decided rd → (q : ℕ) → Decided (rows rd q)
+rows_decided d q = each_decided (λ u. d) (replicate q 0)
 
 pub rows_written : {R : Type 0} {rd : Reading R} {allowed : R → Type 0} {octets : R → List ℕ} → Written rd allowed octets → (q : ℕ)
     → Written (rows rd q) (EachOf (λ (u : ℕ). allowed) (replicate q 0)) (rows_octets octets q)
 rows_written w q = each-written (λ u. w) (replicate q 0)
 
-pub rows-near : {R : Type 0} {rd : Reading R} {m : ℕ} → Near rd m → (q : ℕ) → Near (rows rd q) (q * m)
-rows-near {m = m} h q = near_more (omega (arith, total-same m q)) (each-near {most = λ (u : ℕ). m} (λ u. h) (replicate q 0))
+pub rows_near : {R : Type 0} {rd : Reading R} {m : ℕ} → Near rd m → (q : ℕ) → Near (rows rd q) (q * m)
+rows_near {m = m} h q = near_more (omega (arith, total_same m q)) (each_near {most = λ (u : ℕ). m} (λ u. h) (replicate q 0))
 
 -- no family has more than 256 rows
 pub few_in_all : (f : FamilyId) → rows_of f ≤ 256

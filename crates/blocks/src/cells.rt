@@ -61,14 +61,14 @@ pub fn load_numbers<M: ParameterMemory>(
     columns: &[u8],
     out: &mut [u16],
 )
-    requires sound { sound memory.old }
+    requires sound { M.sound memory.old }
     requires same { length columns.now ≡ length out.old }
     requires base { base ≤ 60000 }
-    requires columns { (i : ℕ) → i < length columns.now → (1 ≤ slice_index columns.now i) × (base + (slice_index columns.now i - 1) < length (cells memory.old)) }
-    ensures sound { sound memory.new }
-    ensures same { cells memory.new ≡ cells memory.old }
-    ensures kept { kept memory.new ≡ kept memory.old }
-    ensures loaded { out.new ≡ cells_at (cells memory.old) base (number_slots columns.now) }
+    requires columns { (i : ℕ) → i < length columns.now → (1 ≤ slice_index columns.now i) × (base + (slice_index columns.now i - 1) < length (M.cells memory.old)) }
+    ensures sound { M.sound memory.new }
+    ensures same { M.cells memory.new ≡ M.cells memory.old }
+    ensures kept { M.kept memory.new ≡ M.kept memory.old }
+    ensures loaded { out.new ≡ cells_at (M.cells memory.old) base (number_slots columns.now) }
 {
     for i in 0..columns.len() {
         let cell = base + (columns[i] as usize - 1);
@@ -80,14 +80,14 @@ pub fn load_numbers<M: ParameterMemory>(
 
 // Loads the first octets of a list, so many of them, and leaves the others.
 fn load_octets<M: ParameterMemory>(memory: &mut M, from: usize, out: &mut [u16])
-    requires sound { sound memory.old }
-    requires within { from + length out.old ≤ length (cells memory.old) }
+    requires sound { M.sound memory.old }
+    requires within { from + length out.old ≤ length (M.cells memory.old) }
     requires from { from ≤ 60300 }
     requires few { length out.old ≤ 16 }
-    ensures sound { sound memory.new }
-    ensures same { cells memory.new ≡ cells memory.old }
-    ensures kept { kept memory.new ≡ kept memory.old }
-    ensures loaded { (i : ℕ) → i < length out.new → slice_index out.new i ≡ slice_index (cells memory.old) (from + i) }
+    ensures sound { M.sound memory.new }
+    ensures same { M.cells memory.new ≡ M.cells memory.old }
+    ensures kept { M.kept memory.new ≡ M.kept memory.old }
+    ensures loaded { (i : ℕ) → i < length out.new → slice_index out.new i ≡ slice_index (M.cells memory.old) (from + i) }
 {
     for i in 0..out.len() {
         if let Some(value) = memory.read(from + i) {
@@ -98,14 +98,14 @@ fn load_octets<M: ParameterMemory>(memory: &mut M, from: usize, out: &mut [u16])
 
 // Loads a list; a length above 16 counts as 16, and the octets past the length as 0.
 pub fn load_list<M: ParameterMemory>(memory: &mut M, base: usize, column: u8) -> PhaseList
-    requires sound { sound memory.old }
+    requires sound { M.sound memory.old }
     requires base { base ≤ 60000 }
     requires column { 1 ≤ column }
-    requires within { base + (column - 1) + 17 ≤ length (cells memory.old) }
-    ensures sound { sound memory.new }
-    ensures same { cells memory.new ≡ cells memory.old }
-    ensures kept { kept memory.new ≡ kept memory.old }
-    ensures loaded { result ≡ list_in (cells_at (cells memory.old) base (list_slots column)) }
+    requires within { base + (column - 1) + 17 ≤ length (M.cells memory.old) }
+    ensures sound { M.sound memory.new }
+    ensures same { M.cells memory.new ≡ M.cells memory.old }
+    ensures kept { M.kept memory.new ≡ M.kept memory.old }
+    ensures loaded { result ≡ list_in (cells_at (M.cells memory.old) base (list_slots column)) }
 {
     let first = base + (column as usize - 1);
     let len = match memory.read(first) {

@@ -63,13 +63,13 @@ pub trait Family {
 
     // The row that a memory has from the cell `base` on.
     fn load<M: ParameterMemory>(memory: &mut M, base: usize) -> Self::Row
-        requires sound { sound memory.old }
+        requires sound { M.sound memory.old }
         requires base { base ≤ 60000 }
-        requires within { base + (shape_of family).row_cells ≤ length (cells memory.old) }
-        ensures sound { sound memory.new }
-        ensures same { cells memory.new ≡ cells memory.old }
-        ensures kept { kept memory.new ≡ kept memory.old }
-        ensures loaded { result ≡ layout.row_of (cells_at (cells memory.old) base layout.carried) };
+        requires within { base + (shape_of family).row_cells ≤ length (M.cells memory.old) }
+        ensures sound { M.sound memory.new }
+        ensures same { M.cells memory.new ≡ M.cells memory.old }
+        ensures kept { M.kept memory.new ≡ M.kept memory.old }
+        ensures loaded { result ≡ layout.row_of (cells_at (M.cells memory.old) base layout.carried) };
 
     // Writes the octets of a row.
     fn emit(row: &Self::Row, reply: &mut [u8], position: &mut Position)

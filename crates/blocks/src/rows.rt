@@ -21,10 +21,10 @@ use values::Fault;
 
 // The first cell of a row of a block, counted from 0: the first index is innermost.
 fn first_cell<F: Family>(spans: Spans, row: usize) -> usize
-    requires table { InTable family spans }
+    requires table { InTable F.family spans }
     requires row { row < rows_in spans }
-    ensures cell { result ≡ cell_of (row_place family spans row) }
-    ensures within { result + (shape_of family).row_cells ≤ cell_count }
+    ensures cell { result ≡ cell_of (row_place F.family spans row) }
+    ensures within { result + (shape_of F.family).row_cells ≤ cell_count }
 {
     let firsts = spans.first.quantity as usize;
     let first = spans.first.start + (row % firsts) as u8;
@@ -42,10 +42,10 @@ pub fn read_rows<F: Family>(
     from: usize,
     list: &mut BoundedList<StagedWrite>,
 ) -> Result<usize, Fault>
-    requires table { InTable family spans }
+    requires table { InTable F.family spans }
     requires from { from ≤ length block.now }
-    requires room { length (items list.old) + rows_in spans * length layout.carried ≤ room list.old }
-    ensures { MatchResult result (λ end. (end ≤ length block.now) × Staged family layout spans (rows_in spans) block.now from (items list.old) (items list.new) end) (λ w. (rows layout.reading (rows_in spans)).Faults block.now from w) }
+    requires room { length (items list.old) + rows_in spans * length F.layout.carried ≤ room list.old }
+    ensures { MatchResult result (λ end. (end ≤ length block.now) × Staged F.family F.layout spans (rows_in spans) block.now from (items list.old) (items list.new) end) (λ w. (rows F.layout.reading (rows_in spans)).Faults block.now from w) }
 {
     let mut pos = from;
     for row in 0..spans.rows() {
@@ -67,16 +67,16 @@ pub fn write_rows<F: Family, M: ParameterMemory>(
     reply: &mut [u8],
     position: &mut Position,
 )
-    requires sound { sound memory.old }
-    requires count { length (cells memory.old) ≡ cell_count }
-    requires bounded { Bounded (cells memory.old) }
-    requires table { InTable family spans }
-    requires room { position.old.length + rows_in spans * layout.most ≤ length reply.old }
-    ensures sound { sound memory.new }
-    ensures same { cells memory.new ≡ cells memory.old }
-    ensures kept { kept memory.new ≡ kept memory.old }
-    ensures written { Wrote reply.old position.old.length reply.new position.new.length (rows_octets layout.octets (rows_in spans) (rows_shown (cells memory.old) family layout spans (rows_in spans))) }
-    ensures size { position.new.length ≤ position.old.length + rows_in spans * layout.most }
+    requires sound { M.sound memory.old }
+    requires count { length (M.cells memory.old) ≡ cell_count }
+    requires bounded { Bounded (M.cells memory.old) }
+    requires table { InTable F.family spans }
+    requires room { position.old.length + rows_in spans * F.layout.most ≤ length reply.old }
+    ensures sound { M.sound memory.new }
+    ensures same { M.cells memory.new ≡ M.cells memory.old }
+    ensures kept { M.kept memory.new ≡ M.kept memory.old }
+    ensures written { Wrote reply.old position.old.length reply.new position.new.length (rows_octets F.layout.octets (rows_in spans) (rows_shown (M.cells memory.old) F.family F.layout spans (rows_in spans))) }
+    ensures size { position.new.length ≤ position.old.length + rows_in spans * F.layout.most }
 {
     for row in 0..spans.rows() {
         let shown = F::load(memory, first_cell::<F>(spans, row));
@@ -89,7 +89,7 @@ pub fn read_block<F: Family>(block: &[u8], list: &mut BoundedList<StagedWrite>) 
     requires front { 2 ≤ length block.now }
     requires room { length (items list.old) + 1024 ≤ room list.old }
     requires empty { items list.old ≡ [] }
-    ensures { MatchResult result (λ _. BlockMeans family layout block.now (items list.new)) (λ w. (contents family layout).Faults block.now 2 w) }
+    ensures { MatchResult result (λ _. BlockMeans F.family F.layout block.now (items list.new)) (λ w. (contents F.family F.layout).Faults block.now 2 w) }
 {
     let last = F::last_row();
     let spans = read_spans(last.first, last.second, block, 2)?;
@@ -104,7 +104,7 @@ pub fn read_block<F: Family>(block: &[u8], list: &mut BoundedList<StagedWrite>) 
 // Reads a header without count, behind its data type and ID, and nothing after it.
 pub fn read_header<F: Family>(block: &[u8]) -> Result<Spans, Fault>
     requires { 2 ≤ length block.now }
-    ensures { MatchResult result (λ sp. (whole (spans_of family)).Means block.now 2 sp (length block.now)) (λ w. (whole (spans_of family)).Faults block.now 2 w) }
+    ensures { MatchResult result (λ sp. (whole (spans_of F.family)).Means block.now 2 sp (length block.now)) (λ w. (whole (spans_of F.family)).Faults block.now 2 w) }
 {
     let last = F::last_row();
     let spans = read_spans(last.first, last.second, block, 2)?;
@@ -121,15 +121,15 @@ pub fn write_block<F: Family, M: ParameterMemory>(
     reply: &mut [u8],
     position: &mut Position,
 )
-    requires sound { sound memory.old }
-    requires count { length (cells memory.old) ≡ cell_count }
-    requires bounded { Bounded (cells memory.old) }
-    requires table { InTable family spans }
+    requires sound { M.sound memory.old }
+    requires count { length (M.cells memory.old) ≡ cell_count }
+    requires bounded { Bounded (M.cells memory.old) }
+    requires table { InTable F.family spans }
     requires room { position.old.length + 1023 ≤ length reply.old }
-    ensures sound { sound memory.new }
-    ensures same { cells memory.new ≡ cells memory.old }
-    ensures kept { kept memory.new ≡ kept memory.old }
-    ensures written { Wrote reply.old position.old.length reply.new position.new.length (block_octets family layout spans (rows_shown (cells memory.old) family layout spans (rows_in spans))) }
+    ensures sound { M.sound memory.new }
+    ensures same { M.cells memory.new ≡ M.cells memory.old }
+    ensures kept { M.kept memory.new ≡ M.kept memory.old }
+    ensures written { Wrote reply.old position.old.length reply.new position.new.length (block_octets F.family F.layout spans (rows_shown (M.cells memory.old) F.family F.layout spans (rows_in spans))) }
     ensures size { position.new.length ≤ position.old.length + 1023 }
 {
     put(reply, position, STANDARD);

@@ -9,7 +9,7 @@ use Rattle.tables.specs.Families.{shape_of}
 use Rattle.values.specs.declared.Fault.{Fault}
 use Rattle.values.specs.declared.Fault.TheVariants.{NotInTable, CountDiffers}
 use Rattle.values.specs.Reading.{item, ItemFaults, at_first, at_second, Decided, Written, Near, EachOf, each_octets, total}
-use Rattle.values.proofs.Parts.{item-decided, item-near, then-decided, then-written, then-near, seen-decided, seen-written, seen-near, held-decided, held-written, held-near, each-decided, each-written, each-near, each_append, each_after, near_more}
+use Rattle.values.proofs.Parts.{item_decided, item_near, then_decided, then-written, then_near, seen_decided, seen-written, seen_near, held_decided, held-written, held_near, each_decided, each-written, each_near, each_append, each_after, near_more}
 use Rattle.headers.specs.declared.Span.{Span}
 use Rattle.headers.specs.declared.Spans.{Spans}
 use Rattle.headers.specs.Headers.{Identifies, family_named, UpTo, span_in, spans_in, spans_of, no_second, exactly, count_octets, count, InTable, spans_octets}
@@ -74,17 +74,17 @@ by_id_lem Split = refl
 by_id_lem Action = refl
 by_id_lem Sequence = refl
 
-one-id : (f g : FamilyId) (x : ℕ) → Identifies f x → Identifies g x → f ≡ g
-one-id f g x h k = sym (by_id_lem f) ∙ (ap by_id (h ∙ sym k) ∙ by_id_lem g)
+one_id : (f g : FamilyId) (x : ℕ) → Identifies f x → Identifies g x → f ≡ g
+one_id f g x h k = sym (by_id_lem f) ∙ (ap by_id (h ∙ sym k) ∙ by_id_lem g)
 
 pub family_decided : Decided family_named
 family_decided =
-    seen-decided (λ f. (tt, f))
-    (then-decided (item-decided (λ x. ⊎_elim (λ e. inl (tt, e)) (λ n. inr (λ u. n)) (cases_eq x 0)) (λ a b x h k. refl)) (λ u. item-decided find_id one-id))
+    seen_decided (λ f. (tt, f))
+    (then_decided (item_decided (λ x. ⊎_elim (λ e. inl (tt, e)) (λ n. inr (λ u. n)) (cases_eq x 0)) (λ a b x h k. refl)) (λ u. item_decided find_id one_id))
     (λ p. p.1) (λ p. refl) (λ f. refl)
 
 pub family_near : Near family_named 2
-family_near = seen-near (λ f. (tt, f)) (then-near {m = 1} {n = 1} (item-near (λ n k. refl)) (λ s i a mid h. item-near (λ n k. refl)))
+family_near = seen_near (λ f. (tt, f)) (then_near {m = 1} {n = 1} (item_near (λ n k. refl)) (λ s i a mid h. item_near (λ n k. refl)))
 
 find_upto : (last x : ℕ) → ((v : ℕ) × UpTo last v x) ⊎ ((v : ℕ) → UpTo last v x → ⊥)
 find_upto last x =
@@ -93,24 +93,24 @@ find_upto last x =
     (order x 1)
 
 upto_decided : (last : ℕ) → Decided (item (UpTo last) NotInTable)
-upto_decided last = item-decided (find_upto last) (λ v w x h k. h.0 ∙ sym k.0)
+upto_decided last = item_decided (find_upto last) (λ v w x h k. h.0 ∙ sym k.0)
 
 pub span_decided : (last : ℕ) → Decided (span_in last)
-span_decided last = seen-decided (λ (s : Span). (s.start, s.quantity)) (then-decided (upto_decided last) (λ i. upto_decided (last + 1 - i))) (λ p. record { start = p.0; quantity = p.1 }) (λ p. refl) (λ s. refl)
+span_decided last = seen_decided (λ (s : Span). (s.start, s.quantity)) (then_decided (upto_decided last) (λ i. upto_decided (last + 1 - i))) (λ p. record { start = p.0; quantity = p.1 }) (λ p. refl) (λ s. refl)
 
 pub span_near : (last : ℕ) → Near (span_in last) 2
-span_near last = seen-near (λ (s : Span). (s.start, s.quantity)) (then-near {m = 1} {n = 1} (item-near (λ n k. refl)) (λ s i a mid h. item-near (λ n k. refl)))
+span_near last = seen_near (λ (s : Span). (s.start, s.quantity)) (then_near {m = 1} {n = 1} (item_near (λ n k. refl)) (λ s i a mid h. item_near (λ n k. refl)))
 
 single : (s t : Spans) → s.first ≡ t.first → s.second ≡ no_second → t.second ≡ no_second → s ≡ t
 single s t e a b = let c = a ∙ sym b in (λ j. record { first = e j; second = c j })
 
-pub spans-decided : (last second : ℕ) → Decided (spans_in last second)
-spans-decided last zero = held-decided (λ (s : Spans). s.first) (λ s. s.second ≡ no_second) (span_decided last) (λ a. record { first = a; second = no_second }) (λ s i a j h. (refl, refl)) single
-spans-decided last (suc n) = seen-decided (λ (s : Spans). (s.first, s.second)) (then-decided (span_decided last) (λ a. span_decided (suc n))) (λ p. record { first = p.0; second = p.1 }) (λ p. refl) (λ s. refl)
+pub spans_decided : (last second : ℕ) → Decided (spans_in last second)
+spans_decided last zero = held_decided (λ (s : Spans). s.first) (λ s. s.second ≡ no_second) (span_decided last) (λ a. record { first = a; second = no_second }) (λ s i a j h. (refl, refl)) single
+spans_decided last (suc n) = seen_decided (λ (s : Spans). (s.first, s.second)) (then_decided (span_decided last) (λ a. span_decided (suc n))) (λ p. record { first = p.0; second = p.1 }) (λ p. refl) (λ s. refl)
 
-pub spans-near : (last second : ℕ) → Near (spans_in last second) 4
-spans-near last zero = held-near (λ (s : Spans). s.first) (λ s. s.second ≡ no_second) (near_more (omega arith) (span_near last))
-spans-near last (suc n) = seen-near (λ (s : Spans). (s.first, s.second)) (then-near {m = 2} {n = 2} (span_near last) (λ s i a mid h. span_near (suc n)))
+pub spans_near : (last second : ℕ) → Near (spans_in last second) 4
+spans_near last zero = held_near (λ (s : Spans). s.first) (λ s. s.second ≡ no_second) (near_more (omega arith) (span_near last))
+spans_near last (suc n) = seen_near (λ (s : Spans). (s.first, s.second)) (then_near {m = 2} {n = 2} (span_near last) (λ s i a mid h. span_near (suc n)))
 
 -- a span that was read lies in the table
 pub record SpanWithin (last : ℕ) (s : Span) : Type 0 where
@@ -124,62 +124,62 @@ span_within last s i a j h =
     let quantity = h.two.is in
     record { least = start.1; some = quantity.1; most = omega (arith, start.2, quantity.2) }
 
-spans-within : (last second : ℕ) (s : List ℕ) (i : ℕ) (a : Spans) (j : ℕ) → (spans_in last second).Means s i a j
+spans_within : (last second : ℕ) (s : List ℕ) (i : ℕ) (a : Spans) (j : ℕ) → (spans_in last second).Means s i a j
     → SpanWithin last a.first × (min 1 second ≤ a.second.start) × (1 ≤ a.second.quantity) × (a.second.start + a.second.quantity ≤ second + 1)
-spans-within last zero s i a j h =
+spans_within last zero s i a j h =
     let start : a.second.start ≡ 0 = ap (λ (x : Span). x.start) h.1 in
     let quantity : a.second.quantity ≡ 1 = ap (λ (x : Span). x.quantity) h.1 in
     (span_within last s i a.first j h.0, omega (arith, start), omega (arith, quantity), omega (arith, start, quantity))
-spans-within last (suc n) s i a j h =
+spans_within last (suc n) s i a j h =
     let w = span_within (suc n) s h.mid a.second j h.two in
     (span_within last s i a.first h.mid h.one, omega (arith, w.least), w.some, w.most)
 
 pub spans_in_table : (f : FamilyId) (s : List ℕ) (i : ℕ) (a : Spans) (j : ℕ) → (spans_of f).Means s i a j → InTable f a
 spans_in_table f s i a j h =
-    let w = spans-within (shape_of f).last_first (shape_of f).last_second s i a j h in
+    let w = spans_within (shape_of f).last_first (shape_of f).last_second s i a j h in
     record {
-      first-least = w.0.least;
+      first_least = w.0.least;
       first_some = w.0.some;
-      first-last = w.0.most;
-      second-least = w.1;
-      second-some = w.2;
-      second-last = w.3;
+      first_last = w.0.most;
+      second_least = w.1;
+      second_some = w.2;
+      second_last = w.3;
     }
 
-pub exactly-decided : (os : List ℕ) → Decided (exactly os)
-exactly-decided = each-decided (λ o. item-decided (λ x. ⊎_elim (λ e. inl (tt, e)) (λ n. inr (λ u. n)) (cases_eq x o)) (λ a b x h k. refl))
+pub exactly_decided : (os : List ℕ) → Decided (exactly os)
+exactly_decided = each_decided (λ o. item_decided (λ x. ⊎_elim (λ e. inl (tt, e)) (λ n. inr (λ u. n)) (cases_eq x o)) (λ a b x h k. refl))
 
 count-length : (b : Bool) (n : ℕ) → length (cond b (1 ∷ n ∷ []) (2 ∷ n / 256 ∷ n % 256 ∷ [])) ≤ 3
 count-length true n = omega arith
 count-length false n = omega arith
 
-pub count-short : (n : ℕ) → length (count_octets n) ≤ 3
-count-short n = count-length (ltb n 256) n
+pub count_short : (n : ℕ) → length (count_octets n) ≤ 3
+count_short n = count-length (ltb n 256) n
 
 total_ones : (os : List ℕ) → total (λ (o : ℕ). 1) os ≡ length os
 total_ones [] = refl
 total_ones (o ∷ os) = omega (arith, total_ones os)
 
-pub count-near : (n : ℕ) → Near (count n) 3
-count-near n = near_more (omega (arith, total_ones (count_octets n), count-short n)) (each-near {most = λ (o : ℕ). 1} (λ o. item-near (λ m k. refl)) (count_octets n))
+pub count_near : (n : ℕ) → Near (count n) 3
+count_near n = near_more (omega (arith, total_ones (count_octets n), count_short n)) (each_near {most = λ (o : ℕ). 1} (λ o. item_near (λ m k. refl)) (count_octets n))
 
 -- one span or two
 module _ (last : ℕ) (s : List ℕ) (i : ℕ) where
-  pub first-faulty : (n : ℕ) (w : Fault) → (span_in last).Faults s i w → (spans_in last n).Faults s i w
-  first-faulty zero w f = f
-  first-faulty (suc n) w f = at_first f
+  pub first_faulty : (n : ℕ) (w : Fault) → (span_in last).Faults s i w → (spans_in last n).Faults s i w
+  first_faulty zero w f = f
+  first_faulty (suc n) w f = at_first f
 
   pub one_span : (n : ℕ) (a : Span) (j : ℕ) → n ≡ 0 → (span_in last).Means s i a j → (spans_in last n).Means s i (record { first = a; second = no_second }) j
   one_span zero a j e h = (h, refl)
   one_span (suc n) a j e h = absurd (omega arith)
 
-  pub two-spans : (n : ℕ) (a b : Span) (mid j : ℕ) → (n ≡ 0 → ⊥) → (span_in last).Means s i a mid → (span_in n).Means s mid b j → (spans_in last n).Means s i (record { first = a; second = b }) j
-  two-spans zero a b mid j e h k = absurd (e refl)
-  two-spans (suc n) a b mid j e h k = record { mid = mid; one = h; two = k }
+  pub two_spans : (n : ℕ) (a b : Span) (mid j : ℕ) → (n ≡ 0 → ⊥) → (span_in last).Means s i a mid → (span_in n).Means s mid b j → (spans_in last n).Means s i (record { first = a; second = b }) j
+  two_spans zero a b mid j e h k = absurd (e refl)
+  two_spans (suc n) a b mid j e h k = record { mid = mid; one = h; two = k }
 
-  pub second-faulty : (n : ℕ) (a : Span) (mid : ℕ) (w : Fault) → (n ≡ 0 → ⊥) → (span_in last).Means s i a mid → (span_in n).Faults s mid w → (spans_in last n).Faults s i w
-  second-faulty zero a mid w e h f = absurd (e refl)
-  second-faulty (suc n) a mid w e h f = at_second a mid h f
+  pub second_faulty : (n : ℕ) (a : Span) (mid : ℕ) (w : Fault) → (n ≡ 0 → ⊥) → (span_in last).Means s i a mid → (span_in n).Faults s mid w → (spans_in last n).Faults s i w
+  second_faulty zero a mid w e h f = absurd (e refl)
+  second_faulty (suc n) a mid w e h f = at_second a mid h f
 
 pub octets_of_two : (n : ℕ) (sp : Spans) → (n ≡ 0 → ⊥) → spans_octets n sp ≡ sp.first.start ∷ sp.first.quantity ∷ sp.second.start ∷ sp.second.quantity ∷ []
 octets_of_two zero sp e = absurd (e refl)
@@ -191,26 +191,26 @@ octets_of_one (suc n) sp e = absurd (omega arith)
 
 -- just these octets, one more
 module _ (os s : List ℕ) (from i : ℕ) where
-  pub one-octet : (marks : List (Unit {0})) (pos : ℕ) → i < length os → pos < length s → get_or s pos 0 ≡ get_or os i 0
+  pub one_octet : (marks : List (Unit {0})) (pos : ℕ) → i < length os → pos < length s → get_or s pos 0 ≡ get_or os i 0
       → (exactly (take i os)).Means s from marks pos → (exactly (take (i + 1) os)).Means s from (marks ++ tt ∷ []) (pos + 1)
-  one-octet marks pos l h e k =
+  one_octet marks pos l h e k =
       subst (λ xs. (exactly xs).Means s from (marks ++ tt ∷ []) (pos + 1)) (sym (take_more os i 0 l))
       (each_append (λ o. item (λ (u : Unit {0}) x. x ≡ o) CountDiffers) (take i os) (get_or os i 0 ∷ []) s from marks (tt ∷ []) pos (pos + 1) k (pos + 1, record { there = h; is = e; takes = refl }, refl))
 
-  pub octet-faulty : (marks : List (Unit {0})) (pos : ℕ) (w : Fault) → i < length os
+  pub octet_faulty : (marks : List (Unit {0})) (pos : ℕ) (w : Fault) → i < length os
       → ItemFaults (λ (u : Unit {0}) x. x ≡ get_or os i 0) CountDiffers s pos w
       → (exactly (take i os)).Means s from marks pos → (exactly os).Faults s from w
-  octet-faulty marks pos w l f k =
+  octet_faulty marks pos w l f k =
       let all : take i os ++ get_or os i 0 ∷ drop (i + 1) os ≡ os = ap (λ t. take i os ++ t) (sym (drop_more os i 0 l)) ∙ take-append-drop i os in
       subst (λ xs. (exactly xs).Faults s from w) all
       (each_after (λ o. item (λ (u : Unit {0}) x. x ≡ o) CountDiffers) (take i os) (get_or os i 0 ∷ drop (i + 1) os) s from marks pos w k (inl f))
 
-  pub octets-done : (marks : List (Unit {0})) (pos : ℕ) → length os ≤ i → (exactly (take i os)).Means s from marks pos → (exactly os).Means s from marks pos
-  octets-done marks pos l k = subst (λ xs. (exactly xs).Means s from marks pos) (take_all i os l) k
+  pub octets_done : (marks : List (Unit {0})) (pos : ℕ) → length os ≤ i → (exactly (take i os)).Means s from marks pos → (exactly os).Means s from marks pos
+  octets_done marks pos l k = subst (λ xs. (exactly xs).Means s from marks pos) (take_all i os l) k
 
-pub spans-short : (n : ℕ) (sp : Spans) → length (spans_octets n sp) ≤ 4
-spans-short zero sp = omega arith
-spans-short (suc n) sp = omega arith
+pub spans_short : (n : ℕ) (sp : Spans) → length (spans_octets n sp) ≤ 4
+spans_short zero sp = omega arith
+spans_short (suc n) sp = omega arith
 
 -- What is written is read back.
 item-written : {A : Type 0} {Is : A → ℕ → Type 0} {fault : ℕ → Fault} (allowed : A → Type 0) (octet : A → ℕ)
@@ -245,27 +245,27 @@ abbrev pub SpansAllowed : ℕ → ℕ → Spans → Type 0
 SpansAllowed last zero sp = SpanAllowed last sp.first × (sp.second ≡ no_second)
 SpansAllowed last (suc n) sp = SpanAllowed last sp.first × SpanAllowed (suc n) sp.second
 
-pub spans-written : (last second : ℕ) → Written (spans_in last second) (SpansAllowed last second) (spans_octets second)
-spans-written last zero = held-written (λ (s : Spans). s.first) (λ s. s.second ≡ no_second) (span_written last)
-spans-written last (suc n) = seen-written (λ (s : Spans). (s.first, s.second)) (then-written (span_written last) (λ u. span_written (suc n)))
+pub spans_written : (last second : ℕ) → Written (spans_in last second) (SpansAllowed last second) (spans_octets second)
+spans_written last zero = held-written (λ (s : Spans). s.first) (λ s. s.second ≡ no_second) (span_written last)
+spans_written last (suc n) = seen-written (λ (s : Spans). (s.first, s.second)) (then-written (span_written last) (λ u. span_written (suc n)))
 
 span_allowed : (last : ℕ) (s : Span) → 1 ≤ s.start → 1 ≤ s.quantity → s.start + s.quantity ≤ last + 1 → SpanAllowed last s
 span_allowed last s a b c = ((a, omega arith), (b, omega arith))
 
-spans-allowed : (last second : ℕ) (sp : Spans) → SpanAllowed last sp.first → min 1 second ≤ sp.second.start → 1 ≤ sp.second.quantity → sp.second.start + sp.second.quantity ≤ second + 1
+spans_allowed : (last second : ℕ) (sp : Spans) → SpanAllowed last sp.first → min 1 second ≤ sp.second.start → 1 ≤ sp.second.quantity → sp.second.start + sp.second.quantity ≤ second + 1
     → SpansAllowed last second sp
-spans-allowed last zero sp a b c d =
+spans_allowed last zero sp a b c d =
     let start : sp.second.start ≡ 0 = omega arith in
     let quantity : sp.second.quantity ≡ 1 = omega arith in
     (a, (λ j. record { start = start j; quantity = quantity j }))
-spans-allowed last (suc n) sp a b c d = (a, span_allowed (suc n) sp.second (omega arith) c d)
+spans_allowed last (suc n) sp a b c d = (a, span_allowed (suc n) sp.second (omega arith) c d)
 
 -- rows of the table can be written
 pub in_table_allowed : (f : FamilyId) (sp : Spans) → InTable f sp → SpansAllowed (shape_of f).last_first (shape_of f).last_second sp
 in_table_allowed f sp t =
-    spans-allowed (shape_of f).last_first (shape_of f).last_second sp
-    (span_allowed (shape_of f).last_first sp.first t.first-least t.first_some t.first-last)
-    t.second-least t.second-some t.second-last
+    spans_allowed (shape_of f).last_first (shape_of f).last_second sp
+    (span_allowed (shape_of f).last_first sp.first t.first_least t.first_some t.first_last)
+    t.second_least t.second_some t.second_last
 
 -- as many marks as octets
 abbrev pub Marked : List ℕ → List (Unit {0}) → Type 0

@@ -46,12 +46,12 @@ rows_in sp = sp.first.quantity * sp.second.quantity
 
 -- all of them are rows of the family's table
 pub record InTable (f : FamilyId) (sp : Spans) : Type 0 where
-  pub first-least : 1 ≤ sp.first.start
+  pub first_least : 1 ≤ sp.first.start
   pub first_some : 1 ≤ sp.first.quantity
-  pub first-last : sp.first.start + sp.first.quantity ≤ (shape_of f).last_first + 1
-  pub second-least : min 1 (shape_of f).last_second ≤ sp.second.start
-  pub second-some : 1 ≤ sp.second.quantity
-  pub second-last : sp.second.start + sp.second.quantity ≤ (shape_of f).last_second + 1
+  pub first_last : sp.first.start + sp.first.quantity ≤ (shape_of f).last_first + 1
+  pub second_least : min 1 (shape_of f).last_second ≤ sp.second.start
+  pub second_some : 1 ≤ sp.second.quantity
+  pub second_last : sp.second.start + sp.second.quantity ≤ (shape_of f).last_second + 1
 
 -- where a row's first cell stands
 abbrev pub row_at : FamilyId → ℕ → ℕ → Place

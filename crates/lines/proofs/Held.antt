@@ -4,23 +4,23 @@ use Rattle.std.proofs.lemmas.Bool.Decides.{nat_tests}
 use Rattle.std.proofs.lemmas.List.{take_all, take_more_set, take-append-le, length-take, length-take-le, length_push}
 use Rattle.lines.specs.Spelling.{spelled, Legible}
 
-held-len : (m len : ℕ) (bytes line : List ℕ) → len ≤ length bytes → take len bytes ≡ take m line → len ≡ min m (length line)
-held-len m len bytes line h e = sym (length-take-le len bytes h) ∙ ap length e ∙ length-take m line
+held_len : (m len : ℕ) (bytes line : List ℕ) → len ≤ length bytes → take len bytes ≡ take m line → len ≡ min m (length line)
+held_len m len bytes line h e = sym (length-take-le len bytes h) ∙ ap length e ∙ length-take m line
 
 pub held_more : (m len b : ℕ) (bytes line : List ℕ) → len < m → len < length bytes → take len bytes ≡ take m line → take (len + 1) (set bytes len b) ≡ take m (line ++ b ∷ [])
 held_more m len b bytes line l h e =
-    let k : len ≡ min m (length line) = held-len m len bytes line (omega arith) e in
+    let k : len ≡ min m (length line) = held_len m len bytes line (omega arith) e in
     let w : length (line ++ b ∷ []) ≤ m = let p : length (line ++ b ∷ []) ≡ length line + 1 = length_push line b in omega arith in
     take_more_set bytes len b h ∙ ap (λ l. l ++ b ∷ []) (e ∙ take_all m line (omega arith)) ∙ sym (take_all m (line ++ b ∷ []) w)
 
 pub held_full : (m len b : ℕ) (bytes line : List ℕ) → m ≤ len → len ≤ length bytes → take len bytes ≡ take m line → take len bytes ≡ take m (line ++ b ∷ [])
 held_full m len b bytes line l h e =
-    let k : len ≡ min m (length line) = held-len m len bytes line h e in
+    let k : len ≡ min m (length line) = held_len m len bytes line h e in
     e ∙ sym (take-append-le m line (b ∷ []) (omega arith))
 
 pub held_none : (m len : ℕ) (bytes line : List ℕ) → 0 < m → len ≤ length bytes → take len bytes ≡ take m line → eqb len 0 ≡ eqb (length line) 0
 held_none m len bytes line p h e =
-    let k : len ≡ min m (length line) = held-len m len bytes line h e in
+    let k : len ≡ min m (length line) = held_len m len bytes line h e in
     grind (arith, nat_tests)
 
 length-spelled : (os : List ℕ) → length (spelled os) ≡ 3 * length os - 1

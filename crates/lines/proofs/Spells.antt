@@ -11,8 +11,8 @@ spelled_push [] y h = absurd (omega arith)
 spelled_push (x ∷ []) y h = refl
 spelled_push (x ∷ z ∷ xs) y h = ap (λ l. digit_of (x / 16) ∷ digit_of (x % 16) ∷ 32 ∷ l) (spelled_push (z ∷ xs) y (omega arith))
 
-pub spelled-first : (xs : List ℕ) (i : ℕ) (s u : List ℕ) → i < length xs → i ≤ 0 → s ≡ spelled (take i xs) → u ≡ s ++ pair (get_or xs i 0) → u ≡ spelled (take (i + 1) xs)
-spelled-first xs i s u h z p q =
+pub spelled_first : (xs : List ℕ) (i : ℕ) (s u : List ℕ) → i < length xs → i ≤ 0 → s ≡ spelled (take i xs) → u ≡ s ++ pair (get_or xs i 0) → u ≡ spelled (take (i + 1) xs)
+spelled_first xs i s u h z p q =
     let e : i ≡ 0 = omega arith in
     let f : s ≡ [] = p ∙ ap (λ k. spelled (take k xs)) e in
     let g : take (i + 1) xs ≡ get_or xs i 0 ∷ [] = take_more xs i 0 h ∙ ap (λ k. take k xs ++ get_or xs i 0 ∷ []) e in

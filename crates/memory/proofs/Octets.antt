@@ -21,9 +21,9 @@ wide_low : (n : ℕ) → n < 608 → wide n ≡ eqb (n % 38) 19
 unfolding wide
 wide_low n h = simp (lt-ltb n 608 h)
 
-wide-mid : (n : ℕ) → 608 ≤ n → n < 1248 → wide n ≡ eqb ((n - 608) % 10) 3
+wide_mid : (n : ℕ) → 608 ≤ n → n < 1248 → wide n ≡ eqb ((n - 608) % 10) 3
 unfolding wide
-wide-mid n h k = simp (le-ltb n 608 h, lt-ltb n 1248 k)
+wide_mid n h k = simp (le-ltb n 608 h, lt-ltb n 1248 k)
 
 wide_high : (n : ℕ) → 1248 ≤ n → wide n ≡ false
 unfolding wide
@@ -37,18 +37,18 @@ pub width_narrow : (n : ℕ) → wide n ≡ false → width_of n ≡ 1
 unfolding width_of
 width_narrow n e = ap (λ b. cond b 2 1) e
 
-pub octet-is : (n : ℕ) → octet_of n ≡ n + wides_below n
+pub octet_is : (n : ℕ) → octet_of n ≡ n + wides_below n
 unfolding octet_of
-octet-is n = refl
+octet_is n = refl
 
 pub octet_low : (n : ℕ) → n < 608 → octet_of n ≡ n + (n + 18) / 38
-octet_low n h = octet-is n ∙ ap (λ x. n + x) (below_low n h)
+octet_low n h = octet_is n ∙ ap (λ x. n + x) (below_low n h)
 
-pub octet-mid : (n : ℕ) → 608 ≤ n → n < 1248 → octet_of n ≡ n + (16 + (n - 608 + 6) / 10)
-octet-mid n h k = octet-is n ∙ ap (λ x. n + x) (below_mid n h k)
+pub octet_mid : (n : ℕ) → 608 ≤ n → n < 1248 → octet_of n ≡ n + (16 + (n - 608 + 6) / 10)
+octet_mid n h k = octet_is n ∙ ap (λ x. n + x) (below_mid n h k)
 
 pub octet_high : (n : ℕ) → 1248 ≤ n → octet_of n ≡ n + 80
-octet_high n h = octet-is n ∙ ap (λ x. n + x) (below_high n h)
+octet_high n h = octet_is n ∙ ap (λ x. n + x) (below_high n h)
 
 step_low : (n : ℕ) → n + 1 < 608 → octet_of (n + 1) ≡ octet_of n + width_of n
 step_low n h =
@@ -57,18 +57,18 @@ step_low n h =
       | inr e ↦ omega (arith, octet_low n (omega arith), octet_low (n + 1) h, width_narrow n (wide_low n (omega arith) ∙ ne_eqb _ _ e))
     ]
 
-step-mid : (n : ℕ) → 608 ≤ n → n + 1 < 1248 → octet_of (n + 1) ≡ octet_of n + width_of n
-step-mid n l h =
+step_mid : (n : ℕ) → 608 ≤ n → n + 1 < 1248 → octet_of (n + 1) ≡ octet_of n + width_of n
+step_mid n l h =
     elim (cases_eq ((n - 608) % 10) 3) [
-      | inl e ↦ omega (arith, octet-mid n l (omega arith), octet-mid (n + 1) (omega arith) h, width_wide n (wide-mid n l (omega arith) ∙ eq-eqb _ _ e))
-      | inr e ↦ omega (arith, octet-mid n l (omega arith), octet-mid (n + 1) (omega arith) h, width_narrow n (wide-mid n l (omega arith) ∙ ne_eqb _ _ e))
+      | inl e ↦ omega (arith, octet_mid n l (omega arith), octet_mid (n + 1) (omega arith) h, width_wide n (wide_mid n l (omega arith) ∙ eq-eqb _ _ e))
+      | inr e ↦ omega (arith, octet_mid n l (omega arith), octet_mid (n + 1) (omega arith) h, width_narrow n (wide_mid n l (omega arith) ∙ ne_eqb _ _ e))
     ]
 
 step_high : (n : ℕ) → 1248 ≤ n → octet_of (n + 1) ≡ octet_of n + width_of n
 step_high n l = omega (arith, octet_high n l, octet_high (n + 1) (omega arith), width_narrow n (wide_high n l))
 
-step-at : (n m : ℕ) → m ≡ n → octet_of (m + 1) ≡ octet_of m + width_of m → octet_of (n + 1) ≡ octet_of n + width_of n
-step-at n m e h = subst (λ x. octet_of (x + 1) ≡ octet_of x + width_of x) e h
+step_at : (n m : ℕ) → m ≡ n → octet_of (m + 1) ≡ octet_of m + width_of m → octet_of (n + 1) ≡ octet_of n + width_of n
+step_at n m e h = subst (λ x. octet_of (x + 1) ≡ octet_of x + width_of x) e h
 
 step_607 : octet_of (607 + 1) ≡ octet_of 607 + width_of 607
 unfolding octet_of wides_below width_of wide
@@ -78,19 +78,19 @@ step_1247 : octet_of (1247 + 1) ≡ octet_of 1247 + width_of 1247
 unfolding octet_of wides_below width_of wide
 step_1247 = refl
 
-pub octet-step : (n : ℕ) → octet_of (n + 1) ≡ octet_of n + width_of n
-octet-step n =
+pub octet_step : (n : ℕ) → octet_of (n + 1) ≡ octet_of n + width_of n
+octet_step n =
     elim (cases_lt (n + 1) 608) [
       | inl h ↦ step_low n h
       | inr h ↦
           elim (cases_eq 607 n) [
-            | inl e ↦ step-at n 607 e step_607
+            | inl e ↦ step_at n 607 e step_607
             | inr ne ↦
                 elim (cases_lt (n + 1) 1248) [
-                  | inl k ↦ step-mid n (omega arith) k
+                  | inl k ↦ step_mid n (omega arith) k
                   | inr k ↦
                       elim (cases_eq 1247 n) [
-                        | inl e ↦ step-at n 1247 e step_1247
+                        | inl e ↦ step_at n 1247 e step_1247
                         | inr me ↦ step_high n (omega arith)
                       ]
                 ]
@@ -98,10 +98,10 @@ octet-step n =
     ]
 
 octet_on : (i d : ℕ) → octet_of i + width_of i ≤ octet_of ((i + d) + 1)
-octet_on i zero = let e : i + 0 ≡ i = omega arith in rw e (omega (arith, octet-step i))
+octet_on i zero = let e : i + 0 ≡ i = omega arith in rw e (omega (arith, octet_step i))
 octet_on i (suc d) =
     let e : i + suc d ≡ (i + d) + 1 = omega arith in
-    rw e (omega (arith, octet_on i d, octet-step ((i + d) + 1)))
+    rw e (omega (arith, octet_on i d, octet_step ((i + d) + 1)))
 
 -- a cell's octets end before a later cell's begin
 pub octet_far : (i j : ℕ) → i < j → octet_of i + width_of i ≤ octet_of j
@@ -109,16 +109,16 @@ octet_far i j h =
     let e : (i + (j - i - 1)) + 1 ≡ j = omega arith in
     subst (λ x. octet_of i + width_of i ≤ octet_of x) e (octet_on i (j - i - 1))
 
-octet-whole : octet_of cell_count ≡ packed_length
+octet_whole : octet_of cell_count ≡ packed_length
 unfolding octet_of wides_below
-octet-whole = refl
+octet_whole = refl
 
 pub octet_end : (n : ℕ) → n < cell_count → octet_of n + width_of n ≤ packed_length
-octet_end n h = omega (arith, octet_far n cell_count h, octet-whole)
+octet_end n h = omega (arith, octet_far n cell_count h, octet_whole)
 
-cell-wide : (os : List ℕ) (n : ℕ) → wide n ≡ true → packed_cell os n ≡ get_or os (octet_of n) 0 % 256 * 256 + get_or os (octet_of n + 1) 0 % 256
+cell_wide : (os : List ℕ) (n : ℕ) → wide n ≡ true → packed_cell os n ≡ get_or os (octet_of n) 0 % 256 * 256 + get_or os (octet_of n + 1) 0 % 256
 unfolding packed_cell
-cell-wide os n e = simp e
+cell_wide os n e = simp e
 
 cell_narrow : (os : List ℕ) (n : ℕ) → wide n ≡ false → packed_cell os n ≡ get_or os (octet_of n) 0 % 256
 unfolding packed_cell
@@ -127,7 +127,7 @@ cell_narrow os n e = simp e
 cell_bounded : (os : List ℕ) (n : ℕ) → packed_cell os n ≤ top_of n
 cell_bounded os n =
     elim (cases_Bool (wide n)) [
-      | inl e ↦ omega (arith, cell-wide os n e, top_wide n e)
+      | inl e ↦ omega (arith, cell_wide os n e, top_wide n e)
       | inr e ↦ omega (arith, cell_narrow os n e, top_narrow n e)
     ]
 
@@ -141,7 +141,7 @@ cell_same os ps n same =
       | inl e ↦
           let a = same (octet_of n) (omega arith) (omega (arith, width_wide n e)) in
           let b = same (octet_of n + 1) (omega arith) (omega (arith, width_wide n e)) in
-          cell-wide ps n e ∙ (ap (λ x. x % 256 * 256 + get_or ps (octet_of n + 1) 0 % 256) a ∙ (ap (λ x. get_or os (octet_of n) 0 % 256 * 256 + x % 256) b ∙ sym (cell-wide os n e)))
+          cell_wide ps n e ∙ (ap (λ x. x % 256 * 256 + get_or ps (octet_of n + 1) 0 % 256) a ∙ (ap (λ x. get_or os (octet_of n) 0 % 256 * 256 + x % 256) b ∙ sym (cell_wide os n e)))
       | inr e ↦
           let a = same (octet_of n) (omega arith) (omega (arith, width_narrow n e)) in
           cell_narrow ps n e ∙ (ap (λ x. x % 256) a ∙ sym (cell_narrow os n e))
@@ -172,7 +172,7 @@ pub get_or_packed_wide :
     (os : List ℕ) (n : ℕ) → length os ≡ packed_length → n < cell_count → wide n ≡ true
     → get_or os (octet_of n) 0 < 256 → get_or os (octet_of n + 1) 0 < 256
     → get_or (packed_cells os) n 0 ≡ get_or os (octet_of n) 0 * 256 + get_or os (octet_of n + 1) 0
-get_or_packed_wide os n e h w a b = get_or_packed os n e h ∙ (cell-wide os n w ∙ omega arith)
+get_or_packed_wide os n e h w a b = get_or_packed os n e h ∙ (cell_wide os n w ∙ omega arith)
 
 pub get_or_packed_narrow :
     (os : List ℕ) (n : ℕ) → length os ≡ packed_length → n < cell_count → wide n ≡ false
@@ -220,7 +220,7 @@ packed_set_wide os n a b v e h w a< b< is =
     let second : get_or qs (octet_of n + 1) 0 ≡ b = get_or-set_same ps (octet_of n + 1) b 0 p< in
     let first : get_or qs (octet_of n) 0 ≡ a = get_or-set_other ps (octet_of n + 1) (octet_of n) b 0 (λ same. omega arith) ∙ get_or-set_same os (octet_of n) a 0 o< in
     packed_changed os qs n v e (length-set ps (octet_of n + 1) b ∙ (lp ∙ e)) h
-    (cell-wide qs n w ∙ omega arith)
+    (cell_wide qs n w ∙ omega arith)
     (λ j out.
     get_or-set_other ps (octet_of n + 1) j b 0 (λ same. ⊎_elim (λ l. omega arith) (λ g. omega (arith, width_wide n w)) out)
     ∙ get_or-set_other os (octet_of n) j a 0 (λ same. ⊎_elim (λ l. omega arith) (λ g. omega (arith, width_wide n w)) out))
@@ -240,10 +240,10 @@ pub read_narrow_at :
 read_narrow_at os n o is e h w =
     subst (λ x. get_or os x 0 < 256 → get_or (packed_cells os) n 0 ≡ get_or os x 0) (sym is) (get_or_packed_narrow os n e h w)
 
-pub set-wide-at :
+pub set_wide_at :
     (os : List ℕ) (n o a b v : ℕ) → o ≡ octet_of n → length os ≡ packed_length → n < cell_count → wide n ≡ true → a < 256 → b < 256 → a * 256 + b ≡ v
     → packed_cells (set (set os o a) (o + 1) b) ≡ set (packed_cells os) n v
-set-wide-at os n o a b v is e h w a< b< s =
+set_wide_at os n o a b v is e h w a< b< s =
     subst (λ x. packed_cells (set (set os x a) (x + 1) b) ≡ set (packed_cells os) n v) (sym is) (packed_set_wide os n a b v e h w a< b< s)
 
 pub set_narrow_at :
@@ -271,17 +271,17 @@ cell_at (suc m) j h =
     elim (cases_lt j (octet_of m)) [
       | inl l ↦ let c = cell_at m j l in (c.0, (omega arith, c.1.1, c.1.2))
       | inr g ↦
-          let e : octet_of (suc m) ≡ octet_of m + width_of m = ap octet_of (omega arith) ∙ octet-step m in
+          let e : octet_of (suc m) ≡ octet_of m + width_of m = ap octet_of (omega arith) ∙ octet_step m in
           (m, (omega arith, g, omega arith))
     ]
 
 -- octets with equal cells are equal at each octet of a cell
-cell-octets :
+cell_octets :
     (os ps : List ℕ) (n j : ℕ)
     → ((k : ℕ) → get_or os k 0 < 256) → ((k : ℕ) → get_or ps k 0 < 256)
     → packed_cell os n ≡ packed_cell ps n
     → octet_of n ≤ j → j < octet_of n + width_of n → get_or os j 0 ≡ get_or ps j 0
-cell-octets os ps n j o< p< same from to =
+cell_octets os ps n j o< p< same from to =
     let first : (get_or os (octet_of n) 0 ≡ get_or ps (octet_of n) 0) → j ≡ octet_of n → get_or os j 0 ≡ get_or ps j 0 =
     λ e at. subst (λ i. get_or os i 0 ≡ get_or ps i 0) (sym at) e in
     let a = o< (octet_of n) in
@@ -290,8 +290,8 @@ cell-octets os ps n j o< p< same from to =
       | inl w ↦
           let c = o< (octet_of n + 1) in
           let d = p< (octet_of n + 1) in
-          let s = cell-wide os n w in
-          let t = cell-wide ps n w in
+          let s = cell_wide os n w in
+          let t = cell_wide ps n w in
           elim (cases_eq j (octet_of n)) [
             | inl at ↦ first (omega arith) at
             | inr ne ↦
@@ -309,8 +309,8 @@ whole_determined :
 whole_determined os ps e d o< p< cells =
     ext_get_or 0 os ps (e ∙ sym d)
     (λ j h.
-    let c = cell_at cell_count j (omega (arith, octet-whole)) in
-    cell-octets os ps c.0 j o< p<
+    let c = cell_at cell_count j (omega (arith, octet_whole)) in
+    cell_octets os ps c.0 j o< p<
     (sym (get_or_packed os c.0 e c.1.0) ∙ (ap (λ cs. get_or cs c.0 0) cells ∙ get_or_packed ps c.0 d c.1.0))
     c.1.1 c.1.2)
 

@@ -36,8 +36,8 @@ pub counted : (xs vs : List ℕ) → xs ≡ numbers_reply vs → length (take (l
 counted xs vs e =
     omega (arith, ap length e, ap (λ ys. get_or ys 1 0) e, length-octets vs, ap length (take_rest xs 2), length-drop 2 xs)
 
-take-two : (xs : List ℕ) (i : ℕ) → 2 * i + 1 < length xs → take (2 * (i + 1)) xs ≡ take (2 * i) xs ++ (get_or xs (2 * i) 0 ∷ get_or xs (2 * i + 1) 0 ∷ [])
-take-two xs i h =
+take_two : (xs : List ℕ) (i : ℕ) → 2 * i + 1 < length xs → take (2 * (i + 1)) xs ≡ take (2 * i) xs ++ (get_or xs (2 * i) 0 ∷ get_or xs (2 * i + 1) 0 ∷ [])
+take_two xs i h =
     let n : 2 * (i + 1) ≡ 2 * i + 1 + 1 = omega arith in
     let here : 2 * i < length xs = omega arith in
     ap (λ m. take m xs) n
@@ -55,10 +55,10 @@ pair_more xs vs ws v i h e high low t =
     ∙ (octets_more vs v
     ∙ (ap (λ ys. ys ++ (v / 256 ∷ v % 256 ∷ [])) t
     ∙ (ap (λ n. take (2 * i) xs ++ (n ∷ v % 256 ∷ [])) high
-    ∙ (ap (λ n. take (2 * i) xs ++ (get_or xs (2 * i) 0 ∷ n ∷ [])) low ∙ sym (take-two xs i h)))))
+    ∙ (ap (λ n. take (2 * i) xs ++ (get_or xs (2 * i) 0 ∷ n ∷ [])) low ∙ sym (take_two xs i h)))))
 
-pub numbers-reply :
+pub numbers_reply_lem :
     (xs values vs : List ℕ) (n : ℕ) → xs ≡ 0 ∷ n ∷ values → length values ≡ 2 * n → two_octets vs ≡ values → xs ≡ numbers_reply vs
-numbers-reply xs values vs n e l t =
+numbers_reply_lem xs values vs n e l t =
     let m : n ≡ length vs = omega (arith, length-octets vs, ap length t, l) in
     e ∙ (ap (λ x. 0 ∷ x ∷ values) m ∙ ap (λ ys. 0 ∷ length vs ∷ ys) (sym t))

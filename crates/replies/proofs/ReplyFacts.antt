@@ -76,8 +76,8 @@ padded_from b r z os n w h e =
     ∙ ap (λ x. os ++ (replicate (reply_room - length os) 0 ++ x)) (wrote_later h w)))
 
 -- padding looks at what follows the room alone
-pub padded-same : (os b r z : List ℕ) → z ≡ padded os r → drop reply_room r ≡ drop reply_room b → z ≡ padded os b
-padded-same os b r z e d = e ∙ ap (λ x. os ++ (replicate (reply_room - length os) 0 ++ x)) d
+pub padded_same : (os b r z : List ℕ) → z ≡ padded os r → drop reply_room r ≡ drop reply_room b → z ≡ padded os b
+padded_same os b r z e d = e ∙ ap (λ x. os ++ (replicate (reply_room - length os) 0 ++ x)) d
 
 -- a reply of a 0 alone
 pub wrote_zero : {b a : List ℕ} {was is : ℕ} → was ≡ 0 → Wrote b was a is (0 ∷ []) → Wrote b 0 a is (0 ∷ [])

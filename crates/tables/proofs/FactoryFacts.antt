@@ -13,7 +13,7 @@ use Rattle.tables.specs.Places.{Stands, cell_of, rows_before}
 use Rattle.tables.specs.Allowed.{allows, length_place, AllowedAt}
 use Rattle.tables.specs.Factory.{factory_in, factory_cell, factory}
 use Rattle.tables.proofs.Each.{each}
-use Rattle.tables.proofs.PlaceFacts.{cell-is, cell-least, cell-last, cell_below, in_row, same_test, column-at, column-within, place}
+use Rattle.tables.proofs.PlaceFacts.{cell_is, cell_least, cell_last, cell_below, in_row, same_test, column_at, column_within, place}
 
 low : (n : ℕ) → n < 608 → factory_cell n ≡ cond (eqb (n % 38) 18) 1 0
 low n h = simp (lt-ltb n 608 h)
@@ -30,21 +30,21 @@ high n l = simp (le-ltb n 608 (omega arith), le-ltb n 1408 (omega arith), le-ltb
 by_family : (f : FamilyId) (x y c o : ℕ) → Stands (place f x y c o) → factory_cell (cell_of (place f x y c o)) ≡ factory_in f c
 by_family Phase x y c o s =
     let p = place Phase x y c o in
-    let m : cell_of p % 38 ≡ (c - 1) + o = ap (λ n. n % 38) (cell-is p ∙ omega arith) ∙ mod-mul-add (rows_before p) 38 ((c - 1) + o) (in_row p s) in
-    low (cell_of p) (cell-last p s) ∙ (ap (λ n. cond (eqb n 18) 1 0) m ∙ ap (λ b. cond b 1 0) (column-at p s 19 (omega arith) (omega arith)))
-by_family VehicleDetector x y c o s = mid (cell_of (place VehicleDetector x y c o)) (cell-least (place VehicleDetector x y c o)) (omega (arith, cell-last (place VehicleDetector x y c o) s))
-by_family PedestrianDetector x y c o s = mid (cell_of (place PedestrianDetector x y c o)) (omega (arith, cell-least (place PedestrianDetector x y c o))) (omega (arith, cell-last (place PedestrianDetector x y c o) s))
-by_family Pattern x y c o s = mid (cell_of (place Pattern x y c o)) (omega (arith, cell-least (place Pattern x y c o))) (cell-last (place Pattern x y c o) s)
+    let m : cell_of p % 38 ≡ (c - 1) + o = ap (λ n. n % 38) (cell_is p ∙ omega arith) ∙ mod-mul-add (rows_before p) 38 ((c - 1) + o) (in_row p s) in
+    low (cell_of p) (cell_last p s) ∙ (ap (λ n. cond (eqb n 18) 1 0) m ∙ ap (λ b. cond b 1 0) (column_at p s 19 (omega arith) (omega arith)))
+by_family VehicleDetector x y c o s = mid (cell_of (place VehicleDetector x y c o)) (cell_least (place VehicleDetector x y c o)) (omega (arith, cell_last (place VehicleDetector x y c o) s))
+by_family PedestrianDetector x y c o s = mid (cell_of (place PedestrianDetector x y c o)) (omega (arith, cell_least (place PedestrianDetector x y c o))) (omega (arith, cell_last (place PedestrianDetector x y c o) s))
+by_family Pattern x y c o s = mid (cell_of (place Pattern x y c o)) (omega (arith, cell_least (place Pattern x y c o))) (cell_last (place Pattern x y c o) s)
 by_family Split x y c o s =
     let p = place Split x y c o in
-    let m : (cell_of p - 1408) % 3 ≡ (c - 1) + o = ap (λ n. n % 3) (omega (arith, cell-is p)) ∙ mod-mul-add (rows_before p) 3 ((c - 1) + o) (in_row p s) in
-    splits (cell_of p) (cell-least p) (cell-last p s) ∙ (ap (λ n. cond (eqb n 1) 2 0) m ∙ ap (λ b. cond b 2 0) (column-at p s 2 (omega arith) (omega arith)))
-by_family Action x y c o s = high (cell_of (place Action x y c o)) (cell-least (place Action x y c o))
-by_family Sequence x y c o s = high (cell_of (place Sequence x y c o)) (omega (arith, cell-least (place Sequence x y c o)))
+    let m : (cell_of p - 1408) % 3 ≡ (c - 1) + o = ap (λ n. n % 3) (omega (arith, cell_is p)) ∙ mod-mul-add (rows_before p) 3 ((c - 1) + o) (in_row p s) in
+    splits (cell_of p) (cell_least p) (cell_last p s) ∙ (ap (λ n. cond (eqb n 1) 2 0) m ∙ ap (λ b. cond b 2 0) (column_at p s 2 (omega arith) (omega arith)))
+by_family Action x y c o s = high (cell_of (place Action x y c o)) (cell_least (place Action x y c o))
+by_family Sequence x y c o s = high (cell_of (place Sequence x y c o)) (omega (arith, cell_least (place Sequence x y c o)))
 
-pub factory-at : (p : Place) → Stands p → get_or factory (cell_of p) 0 ≡ factory_in p.family p.column
+pub factory_at : (p : Place) → Stands p → get_or factory (cell_of p) 0 ≡ factory_in p.family p.column
 unfolding factory
-factory-at p s =
+factory_at p s =
     get_or-list_by factory_cell 2544 (cell_of p) (cell_below p s) ∙ by_family p.family p.first p.second p.column p.octet s
 
 -- the factory value by the column's place among all columns
@@ -77,7 +77,7 @@ column_fits : (f : FamilyId) (c : ℕ) → 1 ≤ c → c ≤ (shape_of f).column
 unfolding by_index
 column_fits f c l h =
     let i = (shape_of f).columns_before + (c - 1) in
-    rw (in_index f c l h) (from_T (fits i (get_or columns i none)) (each fits columns none tt i (column-within f c l h)))
+    rw (in_index f c l h) (from_T (fits i (get_or columns i none)) (each fits columns none tt i (column_within f c l h)))
 
 -- a list's factory cells are all 0
 held : (f : FamilyId) (c o v : ℕ) (b : Bool) (a : Bool) → cond b (eqb v 0) a ≡ true → cond b (cond (eqb o 0) (leb v 16) (cond (leb o v) a (eqb v 0))) a ≡ true
@@ -89,21 +89,21 @@ held f c o v true a e =
     ]
 held f c o v false a e = e
 
-length-stands : (p : Place) → Stands p → Stands (length_place p)
-length-stands p s =
+length_stands : (p : Place) → Stands p → Stands (length_place p)
+length_stands p s =
     record {
-      first-least = s.first-least;
-      first-last = s.first-last;
-      second-least = s.second-least;
-      second-last = s.second-last;
-      column-least = s.column-least;
-      column-last = s.column-last;
-      octet-within = omega (arith, s.octet-within);
+      first_least = s.first_least;
+      first_last = s.first_last;
+      second_least = s.second_least;
+      second_last = s.second_last;
+      column_least = s.column_least;
+      column_last = s.column_last;
+      octet_within = omega (arith, s.octet_within);
     }
 
-pub factory-allowed : (p : Place) → Stands p → AllowedAt factory p
-factory-allowed p s =
+pub factory_allowed : (p : Place) → Stands p → AllowedAt factory p
+factory_allowed p s =
     let f = p.family in
     let c = p.column in
-    rw (factory-at p s, factory-at (length_place p) (length-stands p s))
-    (held f c p.octet (factory_in f c) (is_list (column_of f c).kind) (allows (column_of f c) (factory_in f c)) (column_fits f c s.column-least s.column-last))
+    rw (factory_at p s, factory_at (length_place p) (length_stands p s))
+    (held f c p.octet (factory_in f c) (is_list (column_of f c).kind) (allows (column_of f c) (factory_in f c)) (column_fits f c s.column_least s.column_last))

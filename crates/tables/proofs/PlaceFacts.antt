@@ -58,27 +58,27 @@ pub record Sizes (f : FamilyId) : Type 0 where
   pub firsts : 1 ≤ (shape_of f).last_first
   pub few_firsts : (shape_of f).last_first ≤ 64
   pub few_seconds : (shape_of f).last_second ≤ 16
-  pub columns-least : 1 ≤ (shape_of f).columns
-  pub columns-last : (shape_of f).columns ≤ (shape_of f).row_cells
-  pub few-columns : (shape_of f).columns ≤ 22
-  pub few-cells : (shape_of f).row_cells ≤ 38
+  pub columns_least : 1 ≤ (shape_of f).columns
+  pub columns_last : (shape_of f).columns ≤ (shape_of f).row_cells
+  pub few_columns : (shape_of f).columns ≤ 22
+  pub few_cells : (shape_of f).row_cells ≤ 38
   pub ends : cells_end f ≤ 2544
 
 pub sizes : (f : FamilyId) → Sizes f
-sizes Phase = record { firsts = omega arith; few_firsts = omega arith; few_seconds = omega arith; columns-least = omega arith; columns-last = omega arith; few-columns = omega arith; few-cells = omega arith; ends = omega arith }
-sizes VehicleDetector = record { firsts = omega arith; few_firsts = omega arith; few_seconds = omega arith; columns-least = omega arith; columns-last = omega arith; few-columns = omega arith; few-cells = omega arith; ends = omega arith }
-sizes PedestrianDetector = record { firsts = omega arith; few_firsts = omega arith; few_seconds = omega arith; columns-least = omega arith; columns-last = omega arith; few-columns = omega arith; few-cells = omega arith; ends = omega arith }
-sizes Pattern = record { firsts = omega arith; few_firsts = omega arith; few_seconds = omega arith; columns-least = omega arith; columns-last = omega arith; few-columns = omega arith; few-cells = omega arith; ends = omega arith }
-sizes Split = record { firsts = omega arith; few_firsts = omega arith; few_seconds = omega arith; columns-least = omega arith; columns-last = omega arith; few-columns = omega arith; few-cells = omega arith; ends = omega arith }
-sizes Action = record { firsts = omega arith; few_firsts = omega arith; few_seconds = omega arith; columns-least = omega arith; columns-last = omega arith; few-columns = omega arith; few-cells = omega arith; ends = omega arith }
-sizes Sequence = record { firsts = omega arith; few_firsts = omega arith; few_seconds = omega arith; columns-least = omega arith; columns-last = omega arith; few-columns = omega arith; few-cells = omega arith; ends = omega arith }
+sizes Phase = record { firsts = omega arith; few_firsts = omega arith; few_seconds = omega arith; columns_least = omega arith; columns_last = omega arith; few_columns = omega arith; few_cells = omega arith; ends = omega arith }
+sizes VehicleDetector = record { firsts = omega arith; few_firsts = omega arith; few_seconds = omega arith; columns_least = omega arith; columns_last = omega arith; few_columns = omega arith; few_cells = omega arith; ends = omega arith }
+sizes PedestrianDetector = record { firsts = omega arith; few_firsts = omega arith; few_seconds = omega arith; columns_least = omega arith; columns_last = omega arith; few_columns = omega arith; few_cells = omega arith; ends = omega arith }
+sizes Pattern = record { firsts = omega arith; few_firsts = omega arith; few_seconds = omega arith; columns_least = omega arith; columns_last = omega arith; few_columns = omega arith; few_cells = omega arith; ends = omega arith }
+sizes Split = record { firsts = omega arith; few_firsts = omega arith; few_seconds = omega arith; columns_least = omega arith; columns_last = omega arith; few_columns = omega arith; few_cells = omega arith; ends = omega arith }
+sizes Action = record { firsts = omega arith; few_firsts = omega arith; few_seconds = omega arith; columns_least = omega arith; columns_last = omega arith; few_columns = omega arith; few_cells = omega arith; ends = omega arith }
+sizes Sequence = record { firsts = omega arith; few_firsts = omega arith; few_seconds = omega arith; columns_least = omega arith; columns_last = omega arith; few_columns = omega arith; few_cells = omega arith; ends = omega arith }
 
 -- a place's cell is within its row
 pub in_row : (p : Place) → Stands p → (p.column - 1) + p.octet < (shape_of p.family).row_cells
 in_row p s =
     let z = sizes p.family in
     ⊎_elim (λ e. omega (arith, e)) (λ e. omega (arith, e.0, e.1, e.2))
-    (last_list p.family p.column s.column-least s.column-last)
+    (last_list p.family p.column s.column_least s.column_last)
 
 -- and its row one of the family's
 row_within :
@@ -90,21 +90,21 @@ row_within f first second a b c =
     mul-add-lt (second - 1) (shape_of f).last_first (first - 1) (max 1 (shape_of f).last_second) m (omega arith)
 
 pub row_of : (p : Place) → Stands p → rows_before p < rows_of p.family
-row_of p s = row_within p.family p.first p.second s.first-least s.first-last s.second-last
+row_of p s = row_within p.family p.first p.second s.first_least s.first_last s.second_last
 
-pub cell-is : (p : Place) → cell_of p ≡ (shape_of p.family).cells_before + (rows_before p * (shape_of p.family).row_cells + ((p.column - 1) + p.octet))
+pub cell_is : (p : Place) → cell_of p ≡ (shape_of p.family).cells_before + (rows_before p * (shape_of p.family).row_cells + ((p.column - 1) + p.octet))
 unfolding cell_of
-cell-is p = omega arith
+cell_is p = omega arith
 
-pub cell-least : (p : Place) → (shape_of p.family).cells_before ≤ cell_of p
-cell-least p = omega (arith, cell-is p)
+pub cell_least : (p : Place) → (shape_of p.family).cells_before ≤ cell_of p
+cell_least p = omega (arith, cell_is p)
 
-pub cell-last : (p : Place) → Stands p → cell_of p < cells_end p.family
-cell-last p s =
-    omega (arith, cell-is p, mul-add-lt (rows_before p) (shape_of p.family).row_cells ((p.column - 1) + p.octet) (rows_of p.family) (row_of p s) (in_row p s), mul_comm (rows_of p.family) (shape_of p.family).row_cells)
+pub cell_last : (p : Place) → Stands p → cell_of p < cells_end p.family
+cell_last p s =
+    omega (arith, cell_is p, mul-add-lt (rows_before p) (shape_of p.family).row_cells ((p.column - 1) + p.octet) (rows_of p.family) (row_of p s) (in_row p s), mul_comm (rows_of p.family) (shape_of p.family).row_cells)
 
 pub cell_below : (p : Place) → Stands p → cell_of p < 2544
-cell_below p s = omega (arith, cell-last p s, (sizes p.family).ends)
+cell_below p s = omega (arith, cell_last p s, (sizes p.family).ends)
 
 -- the cell's number as the code adds it up
 pub cell_sum :
@@ -135,7 +135,7 @@ family_at_lem Sequence n l h = simp (le-ltb n 608 (omega arith), le-ltb n 1248 (
 
 pub same_family : (p q : Place) → Stands p → Stands q → cell_of p ≡ cell_of q → p.family ≡ q.family
 same_family p q s t e =
-    sym (family_at_lem p.family (cell_of p) (cell-least p) (cell-last p s)) ∙ (ap family_at e ∙ family_at_lem q.family (cell_of q) (cell-least q) (cell-last q t))
+    sym (family_at_lem p.family (cell_of p) (cell_least p) (cell_last p s)) ∙ (ap family_at e ∙ family_at_lem q.family (cell_of q) (cell_least q) (cell_last q t))
 
 -- a row and a place in it are told by their number
 digits : (a b c d w : ℕ) → b < w → d < w → a * w + b ≡ c * w + d → (a ≡ c) × (b ≡ d)
@@ -177,23 +177,23 @@ same_in f p q pf qf s t e =
     let pi : (p.column - 1) + p.octet < w = subst (λ g. (p.column - 1) + p.octet < (shape_of g).row_cells) pf (in_row p s) in
     let qi : (q.column - 1) + q.octet < w = subst (λ g. (q.column - 1) + q.octet < (shape_of g).row_cells) qf (in_row q t) in
     let pc : cell_of p ≡ (shape_of f).cells_before + (rows_before p * w + ((p.column - 1) + p.octet)) =
-    cell-is p ∙ ap (λ g. (shape_of g).cells_before + (rows_before p * (shape_of g).row_cells + ((p.column - 1) + p.octet))) pf in
+    cell_is p ∙ ap (λ g. (shape_of g).cells_before + (rows_before p * (shape_of g).row_cells + ((p.column - 1) + p.octet))) pf in
     let qc : cell_of q ≡ (shape_of f).cells_before + (rows_before q * w + ((q.column - 1) + q.octet)) =
-    cell-is q ∙ ap (λ g. (shape_of g).cells_before + (rows_before q * (shape_of g).row_cells + ((q.column - 1) + q.octet))) qf in
+    cell_is q ∙ ap (λ g. (shape_of g).cells_before + (rows_before q * (shape_of g).row_cells + ((q.column - 1) + q.octet))) qf in
     let rc = digits (rows_before p) ((p.column - 1) + p.octet) (rows_before q) ((q.column - 1) + q.octet) w pi qi (omega arith) in
-    let p1 : p.first ≤ l = subst (λ g. p.first ≤ (shape_of g).last_first) pf s.first-last in
-    let q1 : q.first ≤ l = subst (λ g. q.first ≤ (shape_of g).last_first) qf t.first-last in
-    let ix = digits (p.second - 1) (p.first - 1) (q.second - 1) (q.first - 1) l (omega (arith, s.first-least)) (omega (arith, t.first-least)) (sym pr ∙ (rc.0 ∙ qr)) in
-    let pl : min 1 (shape_of f).last_second ≤ p.second = subst (λ g. min 1 (shape_of g).last_second ≤ p.second) pf s.second-least in
-    let ql : min 1 (shape_of f).last_second ≤ q.second = subst (λ g. min 1 (shape_of g).last_second ≤ q.second) qf t.second-least in
-    let ph : p.second ≤ (shape_of f).last_second = subst (λ g. p.second ≤ (shape_of g).last_second) pf s.second-last in
-    let qh : q.second ≤ (shape_of f).last_second = subst (λ g. q.second ≤ (shape_of g).last_second) qf t.second-last in
+    let p1 : p.first ≤ l = subst (λ g. p.first ≤ (shape_of g).last_first) pf s.first_last in
+    let q1 : q.first ≤ l = subst (λ g. q.first ≤ (shape_of g).last_first) qf t.first_last in
+    let ix = digits (p.second - 1) (p.first - 1) (q.second - 1) (q.first - 1) l (omega (arith, s.first_least)) (omega (arith, t.first_least)) (sym pr ∙ (rc.0 ∙ qr)) in
+    let pl : min 1 (shape_of f).last_second ≤ p.second = subst (λ g. min 1 (shape_of g).last_second ≤ p.second) pf s.second_least in
+    let ql : min 1 (shape_of f).last_second ≤ q.second = subst (λ g. min 1 (shape_of g).last_second ≤ q.second) qf t.second_least in
+    let ph : p.second ≤ (shape_of f).last_second = subst (λ g. p.second ≤ (shape_of g).last_second) pf s.second_last in
+    let qh : q.second ≤ (shape_of f).last_second = subst (λ g. q.second ≤ (shape_of g).last_second) qf t.second_last in
     let co = in_row_same f p.column p.octet q.column q.octet
-    s.column-least (subst (λ g. p.column ≤ (shape_of g).columns) pf s.column-last) (subst (λ g. p.octet < cells_of (column_of g p.column)) pf s.octet-within)
-    t.column-least (subst (λ g. q.column ≤ (shape_of g).columns) qf t.column-last) (subst (λ g. q.octet < cells_of (column_of g q.column)) qf t.octet-within)
+    s.column_least (subst (λ g. p.column ≤ (shape_of g).columns) pf s.column_last) (subst (λ g. p.octet < cells_of (column_of g p.column)) pf s.octet_within)
+    t.column_least (subst (λ g. q.column ≤ (shape_of g).columns) qf t.column_last) (subst (λ g. q.octet < cells_of (column_of g q.column)) qf t.octet_within)
     rc.1 in
     place_same p q (pf ∙ sym qf)
-    (omega (arith, ix.1, s.first-least, t.first-least))
+    (omega (arith, ix.1, s.first_least, t.first_least))
     (omega (arith, ix.0))
     co.0 co.1
 
@@ -202,10 +202,10 @@ one_place p q s t e = same_in q.family p q (same_family p q s t e) refl s t e
 
 -- a cell of a family has a row of it, and a place in the row
 pub row_below : (f : FamilyId) (s : Shape) (n : ℕ) → s ≡ shape_of f → (shape_of f).cells_before ≤ n → n < cells_end f → (n - s.cells_before) / s.row_cells < rows_of f
-row_below f s n e l h = rw e (div_below (n - (shape_of f).cells_before) (shape_of f).row_cells (rows_of f) (omega (arith, (sizes f).columns-least, (sizes f).columns-last)) (omega arith))
+row_below f s n e l h = rw e (div_below (n - (shape_of f).cells_before) (shape_of f).row_cells (rows_of f) (omega (arith, (sizes f).columns_least, (sizes f).columns_last)) (omega arith))
 
 pub at_below : (f : FamilyId) (s : Shape) (n : ℕ) → s ≡ shape_of f → n % s.row_cells < (shape_of f).row_cells
-at_below f s n e = rw e (mod_below n (shape_of f).row_cells (omega (arith, (sizes f).columns-least, (sizes f).columns-last)))
+at_below f s n e = rw e (mod_below n (shape_of f).row_cells (omega (arith, (sizes f).columns_least, (sizes f).columns_last)))
 
 -- a place made of a row's indices and of a column and octet has that cell
 pub cell_made :
@@ -219,7 +219,7 @@ cell_made p s n e l r a =
     let r2 : rows_before p ≡ (n - b) / w = r ∙ ap (λ (x : Shape). (n - x.cells_before) / x.row_cells) e in
     let a2 : (p.column - 1) + p.octet ≡ (n - b) % w = a ∙ ap (λ (x : Shape). (n - x.cells_before) % x.row_cells) e in
     let m : rows_before p * w ≡ (n - b) / w * w = ap (λ x. x * w) r2 in
-    omega (arith, cell-is p, div-add-mod' (n - b) w)
+    omega (arith, cell_is p, div-add-mod' (n - b) w)
 
 -- a family is known by its data ID
 by_id : ℕ → FamilyId
@@ -250,14 +250,14 @@ one_place_named a p q x y =
     (x.column ∙ sym y.column)
     (x.octet ∙ sym y.octet)
 
-pub one-cell-named : (a : Address) (n m : ℕ) → NamesCell a n → NamesCell a m → n ≡ m
-one-cell-named a n m x y = sym x.2 ∙ (ap cell_of (one_place_named a x.0 y.0 x.1 y.1) ∙ y.2)
+pub one_cell_named : (a : Address) (n m : ℕ) → NamesCell a n → NamesCell a m → n ≡ m
+one_cell_named a n m x y = sym x.2 ∙ (ap cell_of (one_place_named a x.0 y.0 x.1 y.1) ∙ y.2)
 
-pub number-named : (p : Place) → Stands p → is_list (column_of p.family p.column).kind ≡ false → (a : Address) × NamesCell a (cell_of p)
-number-named p s n =
+pub number_named : (p : Place) → Stands p → is_list (column_of p.family p.column).kind ≡ false → (a : Address) × NamesCell a (cell_of p)
+number_named p s n =
     let one : cells_of (column_of p.family p.column) ≡ 1 = ap (λ b. cond b 17 1) n in (
       record { id = (shape_of p.family).id; column = p.column; first = p.first; second = p.second },
-      (p, record { stands = s; id = refl; column = refl; first = refl; second = refl; octet = omega (arith, s.octet-within); number = n }, refl),
+      (p, record { stands = s; id = refl; column = refl; first = refl; second = refl; octet = omega (arith, s.octet_within); number = n }, refl),
     )
 
 -- two tests that go together
@@ -269,11 +269,11 @@ same_test a b c d there back =
     ]
 
 -- in a row, a column before the last is told by its place
-pub column-at : (p : Place) → Stands p → (c : ℕ) → 1 ≤ c → c < (shape_of p.family).columns → eqb ((p.column - 1) + p.octet) (c - 1) ≡ eqb p.column c
-column-at p s c l h =
-    let least = s.column-least in
-    let within = s.octet-within in
-    elim (last_list p.family p.column s.column-least s.column-last) [
+pub column_at : (p : Place) → Stands p → (c : ℕ) → 1 ≤ c → c < (shape_of p.family).columns → eqb ((p.column - 1) + p.octet) (c - 1) ≡ eqb p.column c
+column_at p s c l h =
+    let least = s.column_least in
+    let within = s.octet_within in
+    elim (last_list p.family p.column s.column_least s.column_last) [
       | inl one ↦ same_test _ _ _ _ (λ e. omega (arith, one)) (λ e. omega (arith, one))
       | inr last ↦ same_test _ _ _ _ (λ e. omega (arith, last.0)) (λ e. omega (arith, last.0))
     ]
@@ -283,11 +283,11 @@ abbrev pub place : FamilyId → ℕ → ℕ → ℕ → ℕ → Place
 place f x y c o = record { family = f; first = x; second = y; column = c; octet = o }
 
 -- a family's columns are among all
-pub column-within : (f : FamilyId) (c : ℕ) → 1 ≤ c → c ≤ (shape_of f).columns → (shape_of f).columns_before + (c - 1) < 47
-column-within Phase c l h = omega arith
-column-within VehicleDetector c l h = omega arith
-column-within PedestrianDetector c l h = omega arith
-column-within Pattern c l h = omega arith
-column-within Split c l h = omega arith
-column-within Action c l h = omega arith
-column-within Sequence c l h = omega arith
+pub column_within : (f : FamilyId) (c : ℕ) → 1 ≤ c → c ≤ (shape_of f).columns → (shape_of f).columns_before + (c - 1) < 47
+column_within Phase c l h = omega arith
+column_within VehicleDetector c l h = omega arith
+column_within PedestrianDetector c l h = omega arith
+column_within Pattern c l h = omega arith
+column_within Split c l h = omega arith
+column_within Action c l h = omega arith
+column_within Sequence c l h = omega arith

@@ -7,13 +7,13 @@ use Rattle.tables.specs.Families.{shape_of, column_of, cells_of, is_list}
 
 -- the table has this place: a family with one index has 0 for the second
 pub record Stands (p : Place) : Type 0 where
-  pub first-least : 1 ≤ p.first
-  pub first-last : p.first ≤ (shape_of p.family).last_first
-  pub second-least : min 1 (shape_of p.family).last_second ≤ p.second
-  pub second-last : p.second ≤ (shape_of p.family).last_second
-  pub column-least : 1 ≤ p.column
-  pub column-last : p.column ≤ (shape_of p.family).columns
-  pub octet-within : p.octet < cells_of (column_of p.family p.column)
+  pub first_least : 1 ≤ p.first
+  pub first_last : p.first ≤ (shape_of p.family).last_first
+  pub second_least : min 1 (shape_of p.family).last_second ≤ p.second
+  pub second_last : p.second ≤ (shape_of p.family).last_second
+  pub column_least : 1 ≤ p.column
+  pub column_last : p.column ≤ (shape_of p.family).columns
+  pub octet_within : p.octet < cells_of (column_of p.family p.column)
 
 -- how many rows of the family come before, the second index outermost
 abbrev pub rows_before : Place → ℕ

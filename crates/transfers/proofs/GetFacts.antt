@@ -5,8 +5,8 @@ use Rattle.std.proofs.lemmas.Bool.{cases_lt}
 use Rattle.transfers.specs.Items.{address_at, count_in, Whole}
 use Rattle.transfers.specs.Gets.{Value, Nameless, Values, FirstNameless, two_octets}
 
-pub values-none : (cells body : List ℕ) → Values cells body 0 []
-values-none cells body = record { count = refl; each = λ k h. absurd (omega arith) }
+pub values_none : (cells body : List ℕ) → Values cells body 0 []
+values_none cells body = record { count = refl; each = λ k h. absurd (omega arith) }
 
 pub values_more :
     (cells body vs : List ℕ) (n v : ℕ) → Values cells body n vs → Value cells (address_at body n) v → Values cells body (n + 1) (vs ++ v ∷ [])
@@ -31,9 +31,9 @@ pub length-octets : (vs : List ℕ) → length (two_octets vs) ≡ 2 * length vs
 length-octets [] = refl
 length-octets (x ∷ vs) = omega (arith, length-octets vs)
 
-pub first-nameless :
+pub first_nameless :
     (cells body vs : List ℕ) (n k : ℕ) → k < n → Values cells body k vs → Nameless (address_at body k) → FirstNameless body n k
-first-nameless cells body vs n k h w x =
+first_nameless cells body vs n k h w x =
     record { within = h; here = x; before = λ j l. let v = w.each j l in (v.0, v.1) }
 
 -- the items' octets are four to an item

@@ -4,7 +4,7 @@ use Rattle.std.proofs.lemmas.List.{length_push, get_or_push, get_or_append_left,
 use Rattle.std.proofs.lemmas.Bool.{cases_lt}
 use Rattle.tables.specs.declared.work.StagedWrite.{StagedWrite}
 use Rattle.tables.specs.Allowed.{Stores}
-use Rattle.tables.proofs.WidthFacts.{stored-fits}
+use Rattle.tables.proofs.WidthFacts.{stored_fits}
 use Rattle.memory.specs.Top.{cell_count, top_of}
 use Rattle.transfers.specs.declared.refusal.Refusal.{Refusal}
 use Rattle.transfers.specs.Items.{address_at, sent_at, count_in, Whole}
@@ -14,8 +14,8 @@ use Rattle.transfers.specs.Sets.{Writes, ItemFault, FirstFault, Taken, cell_at, 
 pub item_count : (body items : List ℕ) → Whole 6 body → items ≡ drop 1 body → length items ≡ count_in body * 6
 item_count body items w e = omega (arith, ap length e, length-drop 1 body, w.octets)
 
-pub writes-none : (body : List ℕ) → Writes body 0 []
-writes-none body = record { count = refl; each = λ k h. absurd (omega arith) }
+pub writes_none : (body : List ℕ) → Writes body 0 []
+writes_none body = record { count = refl; each = λ k h. absurd (omega arith) }
 
 before_last : (ws : List StagedWrite) (w : StagedWrite) (k : ℕ) → k < length ws → get_or (ws ++ w ∷ []) k no_write ≡ get_or ws k no_write
 before_last ws w k h = get_or_append_left ws (w ∷ []) no_write k h
@@ -40,9 +40,9 @@ writes_more body ws n w x s =
           ];
     }
 
-pub first-fault :
+pub first_fault :
     (body : List ℕ) (ws : List StagedWrite) (k : ℕ) (e : Refusal) → k < count_in body → Writes body k ws → ItemFault body k e → FirstFault body k e
-first-fault body ws k e h x f =
+first_fault body ws k e h x f =
     record { within = h; here = f; before = λ j l. (cell_at ws j, value_at ws j, x.each j l) }
 
 pub taken_none : (cells : List ℕ) → Taken cells [] cells
@@ -92,4 +92,4 @@ taken_next b a ws i d h c t =
 pub writes_fit :
     (body : List ℕ) (m : ℕ) (ws : List StagedWrite) → Writes body m ws
     → (k : ℕ) → k < length ws → (cell_at ws k < cell_count) × (value_at ws k ≤ top_of (cell_at ws k))
-writes_fit body m ws x k h = stored-fits (address_at body k) (sent_at body (count_in body) k) (cell_at ws k) (value_at ws k) (x.each k (omega (arith, x.count)))
+writes_fit body m ws x k h = stored_fits (address_at body k) (sent_at body (count_in body) k) (cell_at ws k) (value_at ws k) (x.each k (omega (arith, x.count)))

@@ -8,7 +8,7 @@ use Rattle.tables.specs.declared.place.Place.{Place}
 use Rattle.tables.specs.declared.work.StagedWrite.{StagedWrite}
 use Rattle.tables.specs.Allowed.{Stores, Forbids, stored}
 use Rattle.tables.specs.Families.{column_of}
-use Rattle.tables.proofs.PlaceFacts.{one-cell-named, one_place_named}
+use Rattle.tables.proofs.PlaceFacts.{one_cell_named, one_place_named}
 use Rattle.transfers.specs.declared.refusal.Refusal.{Refusal}
 use Rattle.transfers.specs.declared.refusal.Refusal.TheVariants.{ItemCount, Missing, Over, NoNumber, NotAllowed}
 use Rattle.transfers.specs.Items.{Counted, Whole, Miscounted, count_in, address_at, address_place, sent_at}
@@ -36,14 +36,14 @@ fault size body =
     (cond (ltb 32 (count_in body)) ItemCount
     (cond (ltb (length body) (1 + count_in body * size)) (Missing (1 + length body)) (Over (2 + count_in body * size)))))
 
-is-fault : (size : ℕ) (body : List ℕ) (e : Refusal) → Miscounted size body e → e ≡ fault size body
+is_fault : (size : ℕ) (body : List ℕ) (e : Refusal) → Miscounted size body e → e ≡ fault size body
 unfolding fault
-is-fault size body e (no_count h r) = r ∙ simp (lt-ltb (length body) 1 (omega arith))
-is-fault size body e (out_of_range h (inl n) r) = r ∙ simp (le-ltb (length body) 1 h, lt-ltb (count_in body) 1 n)
-is-fault size body e (out_of_range h (inr n) r) = r ∙ simp (le-ltb (length body) 1 h, le-ltb (count_in body) 1 (omega arith), lt-ltb 32 (count_in body) n)
-is-fault size body e (missing c h r) =
+is_fault size body e (no_count h r) = r ∙ simp (lt-ltb (length body) 1 (omega arith))
+is_fault size body e (out_of_range h (inl n) r) = r ∙ simp (le-ltb (length body) 1 h, lt-ltb (count_in body) 1 n)
+is_fault size body e (out_of_range h (inr n) r) = r ∙ simp (le-ltb (length body) 1 h, le-ltb (count_in body) 1 (omega arith), lt-ltb 32 (count_in body) n)
+is_fault size body e (missing c h r) =
     r ∙ simp (le-ltb (length body) 1 c.some, le-ltb (count_in body) 1 c.least, le-ltb 32 (count_in body) c.most, lt-ltb (length body) (1 + count_in body * size) h)
-is-fault size body e (over c h r) =
+is_fault size body e (over c h r) =
     r ∙ simp (le-ltb (length body) 1 c.some, le-ltb (count_in body) 1 c.least, le-ltb 32 (count_in body) c.most, le-ltb (length body) (1 + count_in body * size) (omega arith))
 
 not_whole : (size : ℕ) (body : List ℕ) (e : Refusal) → Miscounted size body e → Whole size body → ⊥
@@ -53,10 +53,10 @@ not_whole size body e (missing c h r) w = omega (arith, w.octets)
 not_whole size body e (over c h r) w = omega (arith, w.octets)
 
 one_value : (cells : List ℕ) (a : Address) (v w : ℕ) → Value cells a v → Value cells a w → v ≡ w
-one_value cells a v w x y = x.2 ∙ (ap (λ n. get_or cells n 0) (one-cell-named a x.0 y.0 x.1 y.1) ∙ sym y.2)
+one_value cells a v w x y = x.2 ∙ (ap (λ n. get_or cells n 0) (one_cell_named a x.0 y.0 x.1 y.1) ∙ sym y.2)
 
-same-values : (cells body vs ws : List ℕ) (n : ℕ) → Values cells body n vs → Values cells body n ws → vs ≡ ws
-same-values cells body vs ws n x y =
+same_values : (cells body vs ws : List ℕ) (n : ℕ) → Values cells body n vs → Values cells body n ws → vs ≡ ws
+same_values cells body vs ws n x y =
     ext_get_or 0 vs ws (x.count ∙ sym y.count)
     (λ k h. let l : k < n = omega (arith, x.count) in one_value cells (address_at body k) (get_or vs k 0) (get_or ws k 0) (x.each k l) (y.each k l))
 
@@ -74,21 +74,21 @@ same_first body n j k x y =
 not_both : (cells body vs : List ℕ) (n k : ℕ) → FirstNameless body n k → Values cells body n vs → ⊥
 not_both cells body vs n k x y = let v = y.each k x.within in x.here v.0 v.1
 
-one-got : (cells body : List ℕ) (o p : Outcome) → Got cells body o → Got cells body p → o ≡ p
-one-got cells body o p (miscounted d x r) (miscounted e y q) = r ∙ (ap refused (is-fault 4 body d x ∙ sym (is-fault 4 body e y)) ∙ sym q)
-one-got cells body o p (miscounted d x r) (nameless k w f q) = absurd (not_whole 4 body d x w)
-one-got cells body o p (miscounted d x r) (values vs w v q) = absurd (not_whole 4 body d x w)
-one-got cells body o p (nameless k w f r) (miscounted e y q) = absurd (not_whole 4 body e y w)
-one-got cells body o p (nameless k w f r) (nameless j u g q) = r ∙ (ap (λ n. refused (NoNumber (address_place n))) (same_first body (count_in body) k j f g) ∙ sym q)
-one-got cells body o p (nameless k w f r) (values vs u v q) = absurd (not_both cells body vs (count_in body) k f v)
-one-got cells body o p (values vs w v r) (miscounted e y q) = absurd (not_whole 4 body e y w)
-one-got cells body o p (values vs w v r) (nameless k u f q) = absurd (not_both cells body vs (count_in body) k f v)
-one-got cells body o p (values vs w v r) (values ws u x q) = r ∙ (ap (λ zs. accepted (0 ∷ count_in body ∷ two_octets zs)) (same-values cells body vs ws (count_in body) v x) ∙ sym q)
+one_got : (cells body : List ℕ) (o p : Outcome) → Got cells body o → Got cells body p → o ≡ p
+one_got cells body o p (miscounted d x r) (miscounted e y q) = r ∙ (ap refused (is_fault 4 body d x ∙ sym (is_fault 4 body e y)) ∙ sym q)
+one_got cells body o p (miscounted d x r) (nameless k w f q) = absurd (not_whole 4 body d x w)
+one_got cells body o p (miscounted d x r) (values vs w v q) = absurd (not_whole 4 body d x w)
+one_got cells body o p (nameless k w f r) (miscounted e y q) = absurd (not_whole 4 body e y w)
+one_got cells body o p (nameless k w f r) (nameless j u g q) = r ∙ (ap (λ n. refused (NoNumber (address_place n))) (same_first body (count_in body) k j f g) ∙ sym q)
+one_got cells body o p (nameless k w f r) (values vs u v q) = absurd (not_both cells body vs (count_in body) k f v)
+one_got cells body o p (values vs w v r) (miscounted e y q) = absurd (not_whole 4 body e y w)
+one_got cells body o p (values vs w v r) (nameless k u f q) = absurd (not_both cells body vs (count_in body) k f v)
+one_got cells body o p (values vs w v r) (values ws u x q) = r ∙ (ap (λ zs. accepted (0 ∷ count_in body ∷ two_octets zs)) (same_values cells body vs ws (count_in body) v x) ∙ sym q)
 
 -- Sets
 
-one-stored : (a : Address) (sent n v m w : ℕ) → Stores a sent n v → Stores a sent m w → (n ≡ m) × (v ≡ w)
-one-stored a sent n v m w x y =
+one_stored : (a : Address) (sent n v m w : ℕ) → Stores a sent n v → Stores a sent m w → (n ≡ m) × (v ≡ w)
+one_stored a sent n v m w x y =
     let e : x.at ≡ y.at = one_place_named a x.at y.at x.named y.named in
     let s : stored (column_of x.at.family x.at.column) sent ≡ Some w = ap (λ (p : Place). stored (column_of p.family p.column) sent) e ∙ y.value in
     let u = x.value in
@@ -106,16 +106,16 @@ not_stored : (body : List ℕ) (k n v : ℕ) (e : Refusal) → ItemFault body k 
 not_stored body k n v e (item-nameless f r) s = f s.at s.named
 not_stored body k n v e (not_allowed f r) s = stored_not_forbidden _ _ n v s f
 
-one-item-fault : (body : List ℕ) (k : ℕ) (d e : Refusal) → ItemFault body k d → ItemFault body k e → d ≡ e
-one-item-fault body k d e (item-nameless f r) (item-nameless g q) = r ∙ sym q
-one-item-fault body k d e (item-nameless f r) (not_allowed g q) = absurd (f g.at g.named)
-one-item-fault body k d e (not_allowed f r) (item-nameless g q) = absurd (g f.at f.named)
-one-item-fault body k d e (not_allowed f r) (not_allowed g q) = r ∙ sym q
+one_item_fault : (body : List ℕ) (k : ℕ) (d e : Refusal) → ItemFault body k d → ItemFault body k e → d ≡ e
+one_item_fault body k d e (item-nameless f r) (item-nameless g q) = r ∙ sym q
+one_item_fault body k d e (item-nameless f r) (not_allowed g q) = absurd (f g.at g.named)
+one_item_fault body k d e (not_allowed f r) (item-nameless g q) = absurd (g f.at f.named)
+one_item_fault body k d e (not_allowed f r) (not_allowed g q) = r ∙ sym q
 
-one-fault : (body : List ℕ) (j k : ℕ) (d e : Refusal) → FirstFault body j d → FirstFault body k e → d ≡ e
-one-fault body j k d e x y =
+one_fault : (body : List ℕ) (j k : ℕ) (d e : Refusal) → FirstFault body j d → FirstFault body k e → d ≡ e
+one_fault body j k d e x y =
     elim (cases_order j k) [
-      | inl s ↦ one-item-fault body k d e (subst (λ i. ItemFault body i d) s x.here) y.here
+      | inl s ↦ one_item_fault body k d e (subst (λ i. ItemFault body i d) s x.here) y.here
       | inr o ↦
           elim o [
             | inl h ↦ let s = y.before j h in absurd (not_stored body j s.0 s.1 d x.here s.2)
@@ -136,7 +136,7 @@ same_writes body n vs ws x y =
     ext_get_or no_write vs ws (x.count ∙ sym y.count)
     (λ k h.
     let l : k < n = omega (arith, x.count) in
-    let s = one-stored _ _ _ _ _ _ (x.each k l) (y.each k l) in
+    let s = one_stored _ _ _ _ _ _ (x.each k l) (y.each k l) in
     same_write (get_or vs k no_write) (get_or ws k no_write) s.0 s.1)
 
 -- the last of the first m writes to a cell, if there is one
@@ -174,8 +174,8 @@ last_of ws c (suc m) =
           ]
     ]
 
-one-taken : (before a b : List ℕ) (ws : List StagedWrite) → Taken before ws a → Taken before ws b → a ≡ b
-one-taken before a b ws x y =
+one_taken : (before a b : List ℕ) (ws : List StagedWrite) → Taken before ws a → Taken before ws b → a ≡ b
+one_taken before a b ws x y =
     ext_get_or 0 a b (x.count ∙ sym y.count)
     (λ c h.
     elim (last_of ws c (length ws)) [
@@ -191,19 +191,19 @@ one-taken before a b ws x y =
 
 one_set : (before body : List ℕ) (o p : Outcome) (a b : List ℕ) → SetTo before body o a → SetTo before body p b → (o ≡ p) × (a ≡ b)
 one_set before body o p a b (set-miscounted d x r m) (set-miscounted e y q n) =
-    (r ∙ (ap refused (is-fault 6 body d x ∙ sym (is-fault 6 body e y)) ∙ sym q), m ∙ sym n)
+    (r ∙ (ap refused (is_fault 6 body d x ∙ sym (is_fault 6 body e y)) ∙ sym q), m ∙ sym n)
 one_set before body o p a b (set-miscounted d x r m) (faulty k e w f q n) = absurd (not_whole 6 body d x w)
 one_set before body o p a b (set-miscounted d x r m) (taken ws w f q n) = absurd (not_whole 6 body d x w)
 one_set before body o p a b (faulty k e w f r m) (set-miscounted d y q n) = absurd (not_whole 6 body d y w)
-one_set before body o p a b (faulty k e w f r m) (faulty j d u g q n) = (r ∙ (ap refused (one-fault body k j e d f g) ∙ sym q), m ∙ sym n)
+one_set before body o p a b (faulty k e w f r m) (faulty j d u g q n) = (r ∙ (ap refused (one_fault body k j e d f g) ∙ sym q), m ∙ sym n)
 one_set before body o p a b (faulty k e w f r m) (taken ws u g q n) = absurd (fault_not_writes body k e ws f g)
 one_set before body o p a b (taken ws w f r m) (set-miscounted d y q n) = absurd (not_whole 6 body d y w)
 one_set before body o p a b (taken ws w f r m) (faulty k e u g q n) = absurd (fault_not_writes body k e ws g f)
 one_set before body o p a b (taken ws w f r m) (taken us u g q n) =
-    (r ∙ sym q, one-taken before a b ws m (subst (λ x. Taken before x b) (same_writes body (count_in body) us ws g f) n))
+    (r ∙ sym q, one_taken before a b ws m (subst (λ x. Taken before x b) (same_writes body (count_in body) us ws g f) n))
 
-same-moment : (t u : Moment) → t.running ≡ u.running → t.draft ≡ u.draft → t.mode ≡ u.mode → t ≡ u
-same-moment t u a b c =
+same_moment : (t u : Moment) → t.running ≡ u.running → t.draft ≡ u.draft → t.mode ≡ u.mode → t ≡ u
+same_moment t u a b c =
     let mk : List ℕ → List ℕ → ℕ → Moment = λ r d m. record { running = r; draft = d; mode = m } in
     ap (λ x. mk x t.draft t.mode) a ∙ (ap (λ x. mk u.running x t.mode) b ∙ ap (λ x. mk u.running u.draft x) c)
 
@@ -217,26 +217,26 @@ same_code x y xs ys zs e f = cc
 same_body : (x y : ℕ) (xs ys zs : List ℕ) → zs ≡ x ∷ xs → zs ≡ y ∷ ys → xs ≡ ys
 same_body x y xs ys zs e f = cc
 
-same-same : (s t u : Moment) → Same s t → Same s u → t ≡ u
-same-same s t u p q = same-moment t u (p.running ∙ sym q.running) (p.draft ∙ sym q.draft) (p.mode ∙ sym q.mode)
+same_same : (s t u : Moment) → Same s t → Same s u → t ≡ u
+same_same s t u p q = same_moment t u (p.running ∙ sym q.running) (p.draft ∙ sym q.draft) (p.mode ∙ sym q.mode)
 
 -- an operation that stands alone, or is followed by octets
 followed_or_alone : (s : Moment) (body : List ℕ) (o p : Outcome) (t : Moment) → Followed s body o t → AllAlone body p → ⊥
 followed_or_alone s body o p t f a = f.0 a.0
 
-one-done : (op : Operation) (s : Moment) (body : List ℕ) (o p : Outcome) (t u : Moment) → Does op s body o t → Does op s body p u → (o ≡ p) × (t ≡ u)
-one-done Get s body o p t u x y = (one-got s.running body o p x.got y.got, same-same s t u x.same y.same)
-one-done Set s body o p t u x y =
+one_done : (op : Operation) (s : Moment) (body : List ℕ) (o p : Outcome) (t u : Moment) → Does op s body o t → Does op s body p u → (o ≡ p) × (t ≡ u)
+one_done Get s body o p t u x y = (one_got s.running body o p x.got y.got, same_same s t u x.same y.same)
+one_done Set s body o p t u x y =
     let r = one_set s.draft body o p t.draft u.draft x.draft y.draft in
-    (r.0, same-moment t u (x.running ∙ sym y.running) r.1 (x.mode ∙ sym y.mode))
-one-done Open s body o p t u (open-over f) (open-over g) = (f.1 ∙ sym g.1, same-same s t u f.2 g.2)
-one-done Open s body o p t u (open-over f) (opened a r d m) = absurd (followed_or_alone s body o p t f a)
-one-done Open s body o p t u (opened a r d m) (open-over f) = absurd (followed_or_alone s body p o u f a)
-one-done Open s body o p t u (opened a r d m) (opened b q e n) = (a.1 ∙ sym b.1, same-moment t u (r ∙ sym q) (d ∙ sym e) (m ∙ sym n))
-one-done Abandon s body o p t u (abandon-over f) (abandon-over g) = (f.1 ∙ sym g.1, same-same s t u f.2 g.2)
-one-done Abandon s body o p t u (abandon-over f) (abandoned a r d m) = absurd (followed_or_alone s body o p t f a)
-one-done Abandon s body o p t u (abandoned a r d m) (abandon-over f) = absurd (followed_or_alone s body p o u f a)
-one-done Abandon s body o p t u (abandoned a r d m) (abandoned b q e n) = (a.1 ∙ sym b.1, same-moment t u (r ∙ sym q) (d ∙ sym e) (m ∙ sym n))
+    (r.0, same_moment t u (x.running ∙ sym y.running) r.1 (x.mode ∙ sym y.mode))
+one_done Open s body o p t u (open-over f) (open-over g) = (f.1 ∙ sym g.1, same_same s t u f.2 g.2)
+one_done Open s body o p t u (open-over f) (opened a r d m) = absurd (followed_or_alone s body o p t f a)
+one_done Open s body o p t u (opened a r d m) (open-over f) = absurd (followed_or_alone s body p o u f a)
+one_done Open s body o p t u (opened a r d m) (opened b q e n) = (a.1 ∙ sym b.1, same_moment t u (r ∙ sym q) (d ∙ sym e) (m ∙ sym n))
+one_done Abandon s body o p t u (abandon-over f) (abandon-over g) = (f.1 ∙ sym g.1, same_same s t u f.2 g.2)
+one_done Abandon s body o p t u (abandon-over f) (abandoned a r d m) = absurd (followed_or_alone s body o p t f a)
+one_done Abandon s body o p t u (abandoned a r d m) (abandon-over f) = absurd (followed_or_alone s body p o u f a)
+one_done Abandon s body o p t u (abandoned a r d m) (abandoned b q e n) = (a.1 ∙ sym b.1, same_moment t u (r ∙ sym q) (d ∙ sym e) (m ∙ sym n))
 
 -- an operation is known by its octet
 by_code : ℕ → Operation
@@ -253,17 +253,17 @@ same_operation : (p q : Operation) (xs ys zs : List ℕ) → zs ≡ code_of p �
 same_operation p q xs ys zs e f = sym (by_code_lem p) ∙ (ap by_code (same_code (code_of p) (code_of q) xs ys zs e f) ∙ by_code_lem q)
 
 one_answer : (s : Moment) (octets : List ℕ) (o p : Outcome) (t u : Moment) → Answered s octets o t → Answered s octets p u → (o ≡ p) × (t ≡ u)
-one_answer s octets o p t u (empty e r m) (empty f q n) = (r ∙ sym q, same-same s t u m n)
+one_answer s octets o p t u (empty e r m) (empty f q n) = (r ∙ sym q, same_same s t u m n)
 one_answer s octets o p t u (empty e r m) (unknown c b f k q n) = absurd (nothing_first c b octets e f)
 one_answer s octets o p t u (empty e r m) (not_taken c b f k q n) = absurd (nothing_first (code_of c) b octets e f)
 one_answer s octets o p t u (empty e r m) (done c b f k d) = absurd (nothing_first (code_of c) b octets e f)
 one_answer s octets o p t u (unknown c b e k r m) (empty f q n) = absurd (nothing_first c b octets f e)
-one_answer s octets o p t u (unknown c b e k r m) (unknown d a f j q n) = (r ∙ sym q, same-same s t u m n)
+one_answer s octets o p t u (unknown c b e k r m) (unknown d a f j q n) = (r ∙ sym q, same_same s t u m n)
 one_answer s octets o p t u (unknown c b e k r m) (not_taken d a f j q n) = absurd (k d (same_code (code_of d) c a b octets f e))
 one_answer s octets o p t u (unknown c b e k r m) (done d a f j x) = absurd (k d (same_code (code_of d) c a b octets f e))
 one_answer s octets o p t u (not_taken c b e k r m) (empty f q n) = absurd (nothing_first (code_of c) b octets f e)
 one_answer s octets o p t u (not_taken c b e k r m) (unknown d a f j q n) = absurd (j c (same_code (code_of c) d b a octets e f))
-one_answer s octets o p t u (not_taken c b e k r m) (not_taken d a f j q n) = (r ∙ sym q, same-same s t u m n)
+one_answer s octets o p t u (not_taken c b e k r m) (not_taken d a f j q n) = (r ∙ sym q, same_same s t u m n)
 one_answer s octets o p t u (not_taken c b e k r m) (done d a f j x) =
     absurd (both_ways (takes_mode d s.mode) (ap (λ z. takes_mode z s.mode) (same_operation d c a b octets f e) ∙ k) j)
 one_answer s octets o p t u (done c b e k x) (empty f q n) = absurd (nothing_first (code_of c) b octets f e)
@@ -271,28 +271,28 @@ one_answer s octets o p t u (done c b e k x) (unknown d a f j q n) = absurd (j c
 one_answer s octets o p t u (done c b e k x) (not_taken d a f j q n) =
     absurd (both_ways (takes_mode c s.mode) (ap (λ z. takes_mode z s.mode) (same_operation c d b a octets e f) ∙ j) k)
 one_answer s octets o p t u (done c b e k x) (done d a f j y) =
-    one-done c s b o p t u x
+    one_done c s b o p t u x
     (subst (λ z. Does z s b p u) (same_operation d c a b octets f e) (subst (λ z. Does d s z p u) (same_body (code_of d) (code_of c) a b octets f e) y))
 
-one-step : (s : Moment) (l : Lent) (octets : List ℕ) (o p : Outcome) (t u : Moment) → Step s l octets o t → Step s l octets p u → (o ≡ p) × (t ≡ u)
-one-step s l octets o p t u (wrong_count c r m) (wrong_count d q n) = (r ∙ sym q, same-same s t u m n)
-one-step s l octets o p t u (wrong_count c r m) (no_room d k q n) = absurd (c d)
-one-step s l octets o p t u (wrong_count c r m) (answered d k a) = absurd (c d)
-one-step s l octets o p t u (no_room c j r m) (wrong_count d q n) = absurd (d c)
-one-step s l octets o p t u (no_room c j r m) (no_room d k q n) = (r ∙ sym q, same-same s t u m n)
-one-step s l octets o p t u (no_room c j r m) (answered d k a) = absurd (j k)
-one-step s l octets o p t u (answered c j a) (wrong_count d q n) = absurd (d c)
-one-step s l octets o p t u (answered c j a) (no_room d k q n) = absurd (k j)
-one-step s l octets o p t u (answered c j a) (answered d k b) = one_answer s octets o p t u a b
+one_step : (s : Moment) (l : Lent) (octets : List ℕ) (o p : Outcome) (t u : Moment) → Step s l octets o t → Step s l octets p u → (o ≡ p) × (t ≡ u)
+one_step s l octets o p t u (wrong_count c r m) (wrong_count d q n) = (r ∙ sym q, same_same s t u m n)
+one_step s l octets o p t u (wrong_count c r m) (no_room d k q n) = absurd (c d)
+one_step s l octets o p t u (wrong_count c r m) (answered d k a) = absurd (c d)
+one_step s l octets o p t u (no_room c j r m) (wrong_count d q n) = absurd (d c)
+one_step s l octets o p t u (no_room c j r m) (no_room d k q n) = (r ∙ sym q, same_same s t u m n)
+one_step s l octets o p t u (no_room c j r m) (answered d k a) = absurd (j k)
+one_step s l octets o p t u (answered c j a) (wrong_count d q n) = absurd (d c)
+one_step s l octets o p t u (answered c j a) (no_room d k q n) = absurd (k j)
+one_step s l octets o p t u (answered c j a) (answered d k b) = one_answer s octets o p t u a b
 
 same_answer : (a b : Answer) → a.number ≡ b.number → a.mode ≡ b.mode → a.length ≡ b.length → a ≡ b
 same_answer a b x y z =
     let mk : ℕ → ℕ → ℕ → Answer = λ n m l. record { number = n; mode = m; length = l } in
     ap (λ n. mk n a.mode a.length) x ∙ (ap (λ n. mk b.number n a.length) y ∙ ap (λ n. mk b.number b.mode n) z)
 
-pub one-outcome : OneOutcome
-one-outcome s l octets before a b x y t u v w =
-    let r = one-step s l octets v.outcome w.outcome t u v.step w.step in
+pub one_outcome : OneOutcome
+one_outcome s l octets before a b x y t u v w =
+    let r = one_step s l octets v.outcome w.outcome t u v.step w.step in
     let o : v.outcome ≡ w.outcome = r.0 in
     let moment : t ≡ u = r.1 in (
       same_answer a b

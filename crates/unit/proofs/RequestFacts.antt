@@ -27,14 +27,14 @@ pub none_left : (xs : List ℕ) → length xs < 1 → xs ≡ []
 none_left xs h = nil_from_length xs (omega arith)
 
 -- a refused get has a reply
-miscounted-answered : (size : ℕ) (body : List ℕ) (e : Refusal) → Miscounted size body e → unanswered e ≡ false
-miscounted-answered size body e (no_count a r) = ap unanswered r
-miscounted-answered size body e (out_of_range a b r) = ap unanswered r
-miscounted-answered size body e (missing a b r) = ap unanswered r
-miscounted-answered size body e (over a b r) = ap unanswered r
+miscounted_answered : (size : ℕ) (body : List ℕ) (e : Refusal) → Miscounted size body e → unanswered e ≡ false
+miscounted_answered size body e (no_count a r) = ap unanswered r
+miscounted_answered size body e (out_of_range a b r) = ap unanswered r
+miscounted_answered size body e (missing a b r) = ap unanswered r
+miscounted_answered size body e (over a b r) = ap unanswered r
 
 pub refused_get : (cells body : List ℕ) (e : Refusal) → Got cells body (refused e) → unanswered e ≡ false
-refused_get cells body e (miscounted d m r) = let s : e ≡ d = cc in ap unanswered s ∙ miscounted-answered 4 body d m
+refused_get cells body e (miscounted d m r) = let s : e ≡ d = cc in ap unanswered s ∙ miscounted_answered 4 body d m
 refused_get cells body e (nameless k w f r) = let s : e ≡ NoNumber (address_place k) = cc in ap unanswered s
 refused_get cells body e (values vs w v r) = let z : ◌≡◌ {A = ℕ} 0 1 = cc in absurd (omega arith)
 
@@ -51,14 +51,14 @@ pub coded : (octets : List ℕ) (p q : Operation) → 1 ≤ length octets → co
 coded octets p q h c e = first_and_rest octets h ∙ ap (λ x. x ∷ take (length octets - 1) (drop 1 octets)) (sym c ∙ ap code_of e)
 
 -- a refused set has a reply
-fault-answered : (body : List ℕ) (k : ℕ) (e : Refusal) → ItemFault body k e → unanswered e ≡ false
-fault-answered body k e (item-nameless n r) = ap unanswered r
-fault-answered body k e (not_allowed f r) = ap unanswered r
+fault_answered : (body : List ℕ) (k : ℕ) (e : Refusal) → ItemFault body k e → unanswered e ≡ false
+fault_answered body k e (item-nameless n r) = ap unanswered r
+fault_answered body k e (not_allowed f r) = ap unanswered r
 
-pub refused-set : (before body after : List ℕ) (e : Refusal) → SetTo before body (refused e) after → unanswered e ≡ false
-refused-set before body after e (set-miscounted d m r a) = let s : e ≡ d = cc in ap unanswered s ∙ miscounted-answered 6 body d m
-refused-set before body after e (faulty k d w f r a) = let s : e ≡ d = cc in ap unanswered s ∙ fault-answered body k d f.here
-refused-set before body after e (taken ws w x r t) = let z : ◌≡◌ {A = ℕ} 0 1 = cc in absurd (omega arith)
+pub refused_set : (before body after : List ℕ) (e : Refusal) → SetTo before body (refused e) after → unanswered e ≡ false
+refused_set before body after e (set-miscounted d m r a) = let s : e ≡ d = cc in ap unanswered s ∙ miscounted_answered 6 body d m
+refused_set before body after e (faulty k d w f r a) = let s : e ≡ d = cc in ap unanswered s ∙ fault_answered body k d f.here
+refused_set before body after e (taken ws w x r t) = let z : ◌≡◌ {A = ℕ} 0 1 = cc in absurd (omega arith)
 
 -- a set on a draft of the right count, with room enough
 pub set_here :
@@ -69,31 +69,31 @@ pub set_here :
 set_here before room body (Ok u) after n h s = set-done n h refl s
 set_here before room body (Err e) after n h s = turned_away e n h refl s
 
-pub set-refused :
+pub set_refused :
     (before body after : List ℕ) (room : ℕ) (r : Result (Unit {0}) Refusal) (e : Refusal)
     → length before ≡ cell_count → 1024 ≤ room → SetHere before room body r after → r ≡ Err e → SetTo before body (refused e) after
-set-refused before body after room r e n h (wrong_count m q a) x = absurd (m n)
-set-refused before body after room r e n h (no_room m l q a) x = absurd (omega arith)
-set-refused before body after room r e n h (turned_away d m l q s) x = let w : d ≡ e = cc in subst (λ y. SetTo before body (refused y) after) w s
-set-refused before body after room r e n h (set-done m l q s) x = let z : ◌≡◌ {A = ℕ} 0 1 = cc in absurd (omega arith)
+set_refused before body after room r e n h (wrong_count m q a) x = absurd (m n)
+set_refused before body after room r e n h (no_room m l q a) x = absurd (omega arith)
+set_refused before body after room r e n h (turned_away d m l q s) x = let w : d ≡ e = cc in subst (λ y. SetTo before body (refused y) after) w s
+set_refused before body after room r e n h (set-done m l q s) x = let z : ◌≡◌ {A = ℕ} 0 1 = cc in absurd (omega arith)
 
-pub set-accepted :
+pub set_accepted :
     (before body after : List ℕ) (room : ℕ) (r : Result (Unit {0}) Refusal) (u : Unit {0})
     → length before ≡ cell_count → 1024 ≤ room → SetHere before room body r after → r ≡ Ok u → SetTo before body (accepted (0 ∷ [])) after
-set-accepted before body after room r u n h (wrong_count m q a) x = absurd (m n)
-set-accepted before body after room r u n h (no_room m l q a) x = absurd (omega arith)
-set-accepted before body after room r u n h (turned_away d m l q s) x = let z : ◌≡◌ {A = ℕ} 0 1 = cc in absurd (omega arith)
-set-accepted before body after room r u n h (set-done m l q s) x = s
+set_accepted before body after room r u n h (wrong_count m q a) x = absurd (m n)
+set_accepted before body after room r u n h (no_room m l q a) x = absurd (omega arith)
+set_accepted before body after room r u n h (turned_away d m l q s) x = let z : ◌≡◌ {A = ℕ} 0 1 = cc in absurd (omega arith)
+set_accepted before body after room r u n h (set-done m l q s) x = s
 
 -- a refusal that has a reply is none of the two that have none
-pub answered-number : (e : Refusal) → unanswered e ≡ false → (number_of e ≡ 9) ⊎ (number_of e ≡ 1) → ⊥
-answered-number MemoryCount a n = let z : ◌≡◌ {A = ℕ} 0 1 = cc in omega arith
-answered-number Room a n = let z : ◌≡◌ {A = ℕ} 0 1 = cc in omega arith
-answered-number EmptyRequest a n = ⊎_elim (λ x. omega arith) (λ x. omega arith) n
-answered-number UnknownOperation a n = ⊎_elim (λ x. omega arith) (λ x. omega arith) n
-answered-number Mode a n = ⊎_elim (λ x. omega arith) (λ x. omega arith) n
-answered-number ItemCount a n = ⊎_elim (λ x. omega arith) (λ x. omega arith) n
-answered-number (Missing k) a n = ⊎_elim (λ x. omega arith) (λ x. omega arith) n
-answered-number (Over k) a n = ⊎_elim (λ x. omega arith) (λ x. omega arith) n
-answered-number (NoNumber k) a n = ⊎_elim (λ x. omega arith) (λ x. omega arith) n
-answered-number (NotAllowed k) a n = ⊎_elim (λ x. omega arith) (λ x. omega arith) n
+pub answered_number : (e : Refusal) → unanswered e ≡ false → (number_of e ≡ 9) ⊎ (number_of e ≡ 1) → ⊥
+answered_number MemoryCount a n = let z : ◌≡◌ {A = ℕ} 0 1 = cc in omega arith
+answered_number Room a n = let z : ◌≡◌ {A = ℕ} 0 1 = cc in omega arith
+answered_number EmptyRequest a n = ⊎_elim (λ x. omega arith) (λ x. omega arith) n
+answered_number UnknownOperation a n = ⊎_elim (λ x. omega arith) (λ x. omega arith) n
+answered_number Mode a n = ⊎_elim (λ x. omega arith) (λ x. omega arith) n
+answered_number ItemCount a n = ⊎_elim (λ x. omega arith) (λ x. omega arith) n
+answered_number (Missing k) a n = ⊎_elim (λ x. omega arith) (λ x. omega arith) n
+answered_number (Over k) a n = ⊎_elim (λ x. omega arith) (λ x. omega arith) n
+answered_number (NoNumber k) a n = ⊎_elim (λ x. omega arith) (λ x. omega arith) n
+answered_number (NotAllowed k) a n = ⊎_elim (λ x. omega arith) (λ x. omega arith) n

@@ -16,20 +16,20 @@ top_least n =
       | inr e ↦ omega (arith, top_narrow n e)
     ]
 
-factory-small : (n : ℕ) → factory_cell n ≤ 2
-factory-small n = grind (arith, nat_tests)
+factory_small : (n : ℕ) → factory_cell n ≤ 2
+factory_small n = grind (arith, nat_tests)
 
 pub length-factory : length factory ≡ cell_count
 unfolding factory
 length-factory = length-list_by factory_cell cell_count
 
-pub factory-step :
+pub factory_step :
     (cells : List ℕ) (i : ℕ) → i < cell_count → length cells ≡ cell_count → take i cells ≡ take i factory
     → (take (i + 1) (written cells i (factory_cell i)) ≡ take (i + 1) factory) × (length (written cells i (factory_cell i)) ≡ cell_count)
 unfolding factory
-factory-step cells i h l t =
+factory_step cells i h l t =
     let h2 : i < length cells = omega arith in
-    let w : written cells i (factory_cell i) ≡ set cells i (factory_cell i) = written_yes cells i (factory_cell i) h2 (omega (arith, factory-small i, top_least i)) in (
+    let w : written cells i (factory_cell i) ≡ set cells i (factory_cell i) = written_yes cells i (factory_cell i) h2 (omega (arith, factory_small i, top_least i)) in (
       ap (take (i + 1)) w
           ∙ (take_more_set cells i (factory_cell i) h2
           ∙ (ap (λ x. x ++ factory_cell i ∷ []) t

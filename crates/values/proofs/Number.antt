@@ -7,7 +7,7 @@ use Rattle.tables.specs.declared.columns.Column.{Column}
 use Rattle.tables.specs.declared.columns.Kind.{Kind}
 use Rattle.tables.specs.declared.columns.Kind.TheVariants.{Number, DetectorOptions, ActionPattern, PhaseList}
 use Rattle.tables.specs.Allowed.{allows, stored, kind_means, kind_allows, both_set}
-use Rattle.tables.proofs.WidthFacts.{stored-allowed}
+use Rattle.tables.proofs.WidthFacts.{stored_allowed}
 use Rattle.values.specs.declared.Fault.{Fault}
 use Rattle.values.specs.declared.Fault.TheVariants.{NotAllowed, Missing}
 use Rattle.values.specs.Reading.{Decided, Written, Near, place_in}
@@ -26,34 +26,34 @@ judged c s i =
     (some_or_none (stored c (sent c s i))))
     (order (length s) (i + size c))
 
-one-fault : (c : Column) (s : List ℕ) (i : ℕ) (v w : Fault) → NumberFaults c s i v → NumberFaults c s i w → v ≡ w
-one-fault c s i v w (bad l f e) (bad m g h) = e ∙ sym h
-one-fault c s i v w (bad l f e) (gone m h) = absurd (omega arith)
-one-fault c s i v w (gone l e) (bad m g h) = absurd (omega arith)
-one-fault c s i v w (gone l e) (gone m h) = e ∙ sym h
+one_fault : (c : Column) (s : List ℕ) (i : ℕ) (v w : Fault) → NumberFaults c s i v → NumberFaults c s i w → v ≡ w
+one_fault c s i v w (bad l f e) (bad m g h) = e ∙ sym h
+one_fault c s i v w (bad l f e) (gone m h) = absurd (omega arith)
+one_fault c s i v w (gone l e) (bad m g h) = absurd (omega arith)
+one_fault c s i v w (gone l e) (gone m h) = e ∙ sym h
 
 not_both : (c : Column) (s : List ℕ) (i r n : ℕ) (w : Fault) → NumberMeans c s i r n → NumberFaults c s i w → ⊥
 not_both c s i r n w h (bad l f e) = let x : stored c (sent c s i) ≡ Some r = h.is in let z : ◌≡◌ {A = ℕ} 0 1 = cc in omega arith
 not_both c s i r n w h (gone l e) = omega (arith, h.there)
 
-same-value : (c : Column) (s : List ℕ) (i r q j k : ℕ) → NumberMeans c s i r j → NumberMeans c s i q k → r ≡ q
-same-value c s i r q j k h g = let x : stored c (sent c s i) ≡ Some r = h.is in let y : stored c (sent c s i) ≡ Some q = g.is in cc
+same_value : (c : Column) (s : List ℕ) (i r q j k : ℕ) → NumberMeans c s i r j → NumberMeans c s i q k → r ≡ q
+same_value c s i r q j k h g = let x : stored c (sent c s i) ≡ Some r = h.is in let y : stored c (sent c s i) ≡ Some q = g.is in cc
 
-pub number-decided : (c : Column) → Decided (number c)
-number-decided c = record {
+pub number_decided : (c : Column) → Decided (number c)
+number_decided c = record {
   judged = judged c;
-  one_row = λ s i r q j k h g. (same-value c s i r q j k h g, h.takes ∙ sym g.takes);
-  one-fault = one-fault c;
+  one_row = λ s i r q j k h g. (same_value c s i r q j k h g, h.takes ∙ sym g.takes);
+  one_fault = one_fault c;
   not_both = not_both c;
   within = λ s i r j l h. omega (arith, h.takes, h.there);
 }
 
-fault-near : (c : Column) (s : List ℕ) (i : ℕ) (w : Fault) → NumberFaults c s i w → place_in (length s) w ≤ i + size c
-fault-near c s i w (bad l f e) = omega (arith, ap (place_in (length s)) e)
-fault-near c s i w (gone l e) = omega (arith, ap (place_in (length s)) e)
+fault_near : (c : Column) (s : List ℕ) (i : ℕ) (w : Fault) → NumberFaults c s i w → place_in (length s) w ≤ i + size c
+fault_near c s i w (bad l f e) = omega (arith, ap (place_in (length s)) e)
+fault_near c s i w (gone l e) = omega (arith, ap (place_in (length s)) e)
 
-pub number-near : (c : Column) → Near (number c) (size c)
-number-near c = record { reach = λ s i r j h. omega (arith, h.takes); fault = fault-near c }
+pub number_near : (c : Column) → Near (number c) (size c)
+number_near c = record { reach = λ s i r j h. omega (arith, h.takes); fault = fault_near c }
 
 -- an allowed value means itself
 means_itself : (k : Kind) (c : Column) (v : ℕ) → kind_allows k c v ≡ true → kind_means k v ≡ v
@@ -62,8 +62,8 @@ means_itself DetectorOptions c v h = cond-false (both_set v) (v - 8) v (not-true
 means_itself ActionPattern c v h = refl
 means_itself PhaseList c v h = refl
 
-pub allowed-stored : (c : Column) (v : ℕ) → allows c v ≡ true → stored c v ≡ Some v
-allowed-stored c v h =
+pub allowed_stored : (c : Column) (v : ℕ) → allows c v ≡ true → stored c v ≡ Some v
+allowed_stored c v h =
     let e = means_itself c.kind c v h in
     cond-true _ _ _ (ap (allows c) e ∙ h) ∙ ap Some e
 
@@ -74,8 +74,8 @@ after_end : (before : List ℕ) (x y : ℕ) (after : List ℕ) → get_or (befor
 after_end before x y after =
     ap (λ n. get_or (before ++ x ∷ y ∷ after) n 0) (sym (length-append before (x ∷ []))) ∙ ap (λ l. get_or l (length (before ++ x ∷ [])) 0) (sym (append_assoc before (x ∷ []) (y ∷ after))) ∙ at_end (before ++ x ∷ []) y after
 
-number-back : (c : Column) (wide : Bool) (v : ℕ) (before after : List ℕ) → eqb c.width 2 ≡ wide → Allowed c v → NumberMeans c (before ++ (octets c v ++ after)) (length before) v (length (before ++ octets c v))
-number-back c true v before after e ok =
+number_back : (c : Column) (wide : Bool) (v : ℕ) (before after : List ℕ) → eqb c.width 2 ≡ wide → Allowed c v → NumberMeans c (before ++ (octets c v ++ after)) (length before) v (length (before ++ octets c v))
+number_back c true v before after e ok =
     let two : octets c v ≡ v / 256 ∷ v % 256 ∷ [] = ap (λ b. cond b (v / 256 ∷ v % 256 ∷ []) (v ∷ [])) e in
     let n : size c ≡ 2 = ap (λ b. cond b 2 1) e in
     let s = before ++ (v / 256 ∷ v % 256 ∷ after) in
@@ -85,10 +85,10 @@ number-back c true v before after e ok =
     subst (λ os. NumberMeans c (before ++ (os ++ after)) (length before) v (length (before ++ os))) (sym two)
     (record {
       there = omega (arith, length-append before (v / 256 ∷ v % 256 ∷ after), n);
-      is = ap (stored c) is ∙ allowed-stored c v ok;
+      is = ap (stored c) is ∙ allowed_stored c v ok;
       takes = length-append before (v / 256 ∷ v % 256 ∷ []) ∙ omega (arith, n);
     })
-number-back c false v before after e ok =
+number_back c false v before after e ok =
     let one : octets c v ≡ v ∷ [] = ap (λ b. cond b (v / 256 ∷ v % 256 ∷ []) (v ∷ [])) e in
     let n : size c ≡ 1 = ap (λ b. cond b 2 1) e in
     let s = before ++ (v ∷ after) in
@@ -97,14 +97,14 @@ number-back c false v before after e ok =
     subst (λ os. NumberMeans c (before ++ (os ++ after)) (length before) v (length (before ++ os))) (sym one)
     (record {
       there = omega (arith, length-append before (v ∷ after), n);
-      is = ap (stored c) is ∙ allowed-stored c v ok;
+      is = ap (stored c) is ∙ allowed_stored c v ok;
       takes = length-append before (v ∷ []) ∙ omega (arith, n);
     })
 
 pub number-written : (c : Column) → Written (number c) (Allowed c) (octets c)
 number-written c = record {
-  ok = λ s i v j h. stored-allowed c (sent c s i) v h.is;
-  back = λ v ok before after. number-back c (eqb c.width 2) v before after refl ok;
+  ok = λ s i v j h. stored_allowed c (sent c s i) v h.is;
+  back = λ v ok before after. number_back c (eqb c.width 2) v before after refl ok;
 }
 
 octets_by : (b : Bool) (v : ℕ) → length (cond b (v / 256 ∷ v % 256 ∷ []) (v ∷ [])) ≡ cond b 2 1

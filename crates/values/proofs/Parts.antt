@@ -6,8 +6,8 @@ use Rattle.values.specs.declared.Fault.TheVariants.{Over, Missing}
 use Rattle.values.specs.Reading.{Reading, ThenMeans, ThenFaults, at_first, at_second, then, EachMeans, EachFaults, each, held, seen, whole, WholeFaults, in_part, over, Decided, Written, Near, EachOf, each_octets, total, item, ItemMeans, ItemFaults, bad, gone, place_in}
 
 module _ {A B : Type 0} {first : Reading A} {second : A → Reading B} (one : Decided first) (two : (a : A) → Decided (second a)) where
-  then-judged : (s : List ℕ) (i : ℕ) → ((p : A × B) × (j : ℕ) × ThenMeans first second s i p j) ⊎ ((w : Fault) × ThenFaults first second s i w)
-  then-judged s i =
+  then_judged : (s : List ℕ) (i : ℕ) → ((p : A × B) × (j : ℕ) × ThenMeans first second s i p j) ⊎ ((w : Fault) × ThenFaults first second s i w)
+  then_judged s i =
       ⊎_elim
       (λ h. ⊎_elim
       (λ k. inl ((h.0, k.0), k.1, record { mid = h.1; one = h.2; two = k.2 }))
@@ -16,32 +16,32 @@ module _ {A B : Type 0} {first : Reading A} {second : A → Reading B} (one : De
       (λ f. inr (f.0, at_first f.1))
       (one.judged s i)
 
-  then-one-row : (s : List ℕ) (i : ℕ) (p q : A × B) (j l : ℕ) → ThenMeans first second s i p j → ThenMeans first second s i q l → (p ≡ q) × (j ≡ l)
-  then-one-row s i p q j l h k =
+  then_one_row : (s : List ℕ) (i : ℕ) (p q : A × B) (j l : ℕ) → ThenMeans first second s i p j → ThenMeans first second s i q l → (p ≡ q) × (j ≡ l)
+  then_one_row s i p q j l h k =
       let e = one.one_row s i p.0 q.0 h.mid k.mid h.one k.one in
       let f = (two q.0).one_row s k.mid p.1 q.1 j l (subst (λ a. (second a).Means s k.mid p.1 j) e.0 (subst (λ m. (second p.0).Means s m p.1 j) e.1 h.two)) k.two in
       ((λ x. (e.0 x, f.0 x)), f.1)
 
-  then-not-both : (s : List ℕ) (i : ℕ) (p : A × B) (j : ℕ) (w : Fault) → ThenMeans first second s i p j → ThenFaults first second s i w → ⊥
-  then-not-both s i p j w h (at_first f) = one.not_both s i p.0 h.mid w h.one f
-  then-not-both s i p j w h (at_second a m k f) =
+  then_not_both : (s : List ℕ) (i : ℕ) (p : A × B) (j : ℕ) (w : Fault) → ThenMeans first second s i p j → ThenFaults first second s i w → ⊥
+  then_not_both s i p j w h (at_first f) = one.not_both s i p.0 h.mid w h.one f
+  then_not_both s i p j w h (at_second a m k f) =
       let e = one.one_row s i p.0 a h.mid m h.one k in
       (two a).not_both s m p.1 j w (subst (λ x. (second x).Means s m p.1 j) e.0 (subst (λ l. (second p.0).Means s l p.1 j) e.1 h.two)) f
 
-  then-one-fault : (s : List ℕ) (i : ℕ) (v w : Fault) → ThenFaults first second s i v → ThenFaults first second s i w → v ≡ w
-  then-one-fault s i v w (at_first f) (at_first g) = one.one-fault s i v w f g
-  then-one-fault s i v w (at_first f) (at_second a m k g) = absurd (one.not_both s i a m v k f)
-  then-one-fault s i v w (at_second a m k g) (at_first f) = absurd (one.not_both s i a m w k f)
-  then-one-fault s i v w (at_second a m h f) (at_second b n k g) =
+  then_one_fault : (s : List ℕ) (i : ℕ) (v w : Fault) → ThenFaults first second s i v → ThenFaults first second s i w → v ≡ w
+  then_one_fault s i v w (at_first f) (at_first g) = one.one_fault s i v w f g
+  then_one_fault s i v w (at_first f) (at_second a m k g) = absurd (one.not_both s i a m v k f)
+  then_one_fault s i v w (at_second a m k g) (at_first f) = absurd (one.not_both s i a m w k f)
+  then_one_fault s i v w (at_second a m h f) (at_second b n k g) =
       let e = one.one_row s i a b m n h k in
-      (two b).one-fault s n v w (subst (λ l. (second b).Faults s l v) e.1 (subst (λ c. (second c).Faults s m v) e.0 f)) g
+      (two b).one_fault s n v w (subst (λ l. (second b).Faults s l v) e.1 (subst (λ c. (second c).Faults s m v) e.0 f)) g
 
-  pub then-decided : Decided (then first second)
-  then-decided = record {
-    judged = then-judged;
-    one_row = then-one-row;
-    one-fault = then-one-fault;
-    not_both = then-not-both;
+  pub then_decided : Decided (then first second)
+  then_decided = record {
+    judged = then_judged;
+    one_row = then_one_row;
+    one_fault = then_one_fault;
+    not_both = then_not_both;
     within = λ s i p j l h. (two p.0).within s h.mid p.1 j (one.within s i p.0 h.mid l h.one) h.two;
   }
 
@@ -62,41 +62,41 @@ module _ {A B : Type 0} {first : Reading A} {second : A → Reading B} {okA : A 
   }
 
 module _ {C R : Type 0} {part : C → Reading R} (all : (c : C) → Decided (part c)) where
-  each-judged : (cs : List C) (s : List ℕ) (i : ℕ) → ((xs : List R) × (j : ℕ) × EachMeans part cs s i xs j) ⊎ ((w : Fault) × EachFaults part cs s i w)
-  each-judged [] s i = inl ([], i, refl)
-  each-judged (c ∷ cs) s i =
+  each_judged : (cs : List C) (s : List ℕ) (i : ℕ) → ((xs : List R) × (j : ℕ) × EachMeans part cs s i xs j) ⊎ ((w : Fault) × EachFaults part cs s i w)
+  each_judged [] s i = inl ([], i, refl)
+  each_judged (c ∷ cs) s i =
       ⊎_elim
-      (λ h. ⊎_elim (λ k. inl (h.0 ∷ k.0, k.1, (h.1, h.2, k.2))) (λ f. inr (f.0, inr (h.0, h.1, h.2, f.1))) (each-judged cs s h.1))
+      (λ h. ⊎_elim (λ k. inl (h.0 ∷ k.0, k.1, (h.1, h.2, k.2))) (λ f. inr (f.0, inr (h.0, h.1, h.2, f.1))) (each_judged cs s h.1))
       (λ f. inr (f.0, inl f.1))
       ((all c).judged s i)
 
-  each-one-row : (cs : List C) (s : List ℕ) (i : ℕ) (xs ys : List R) (j l : ℕ) → EachMeans part cs s i xs j → EachMeans part cs s i ys l → (xs ≡ ys) × (j ≡ l)
-  each-one-row [] s i [] [] j l h k = (refl, h ∙ sym k)
-  each-one-row [] s i [] (y ∷ ys) j l h k = absurd k
-  each-one-row [] s i (x ∷ xs) ys j l h k = absurd h
-  each-one-row (c ∷ cs) s i [] ys j l h k = absurd h
-  each-one-row (c ∷ cs) s i (x ∷ xs) [] j l h k = absurd k
-  each-one-row (c ∷ cs) s i (x ∷ xs) (y ∷ ys) j l h k =
+  each_one_row : (cs : List C) (s : List ℕ) (i : ℕ) (xs ys : List R) (j l : ℕ) → EachMeans part cs s i xs j → EachMeans part cs s i ys l → (xs ≡ ys) × (j ≡ l)
+  each_one_row [] s i [] [] j l h k = (refl, h ∙ sym k)
+  each_one_row [] s i [] (y ∷ ys) j l h k = absurd k
+  each_one_row [] s i (x ∷ xs) ys j l h k = absurd h
+  each_one_row (c ∷ cs) s i [] ys j l h k = absurd h
+  each_one_row (c ∷ cs) s i (x ∷ xs) [] j l h k = absurd k
+  each_one_row (c ∷ cs) s i (x ∷ xs) (y ∷ ys) j l h k =
       let e = (all c).one_row s i x y h.0 k.0 h.1 k.1 in
-      let f = each-one-row cs s k.0 xs ys j l (subst (λ m. EachMeans part cs s m xs j) e.1 h.2) k.2 in
+      let f = each_one_row cs s k.0 xs ys j l (subst (λ m. EachMeans part cs s m xs j) e.1 h.2) k.2 in
       ((λ t. e.0 t ∷ f.0 t), f.1)
 
-  each-not-both : (cs : List C) (s : List ℕ) (i : ℕ) (xs : List R) (j : ℕ) (w : Fault) → EachMeans part cs s i xs j → EachFaults part cs s i w → ⊥
-  each-not-both [] s i xs j w h f = f
-  each-not-both (c ∷ cs) s i [] j w h f = h
-  each-not-both (c ∷ cs) s i (x ∷ xs) j w h (inl f) = (all c).not_both s i x h.0 w h.1 f
-  each-not-both (c ∷ cs) s i (x ∷ xs) j w h (inr f) =
+  each_not_both : (cs : List C) (s : List ℕ) (i : ℕ) (xs : List R) (j : ℕ) (w : Fault) → EachMeans part cs s i xs j → EachFaults part cs s i w → ⊥
+  each_not_both [] s i xs j w h f = f
+  each_not_both (c ∷ cs) s i [] j w h f = h
+  each_not_both (c ∷ cs) s i (x ∷ xs) j w h (inl f) = (all c).not_both s i x h.0 w h.1 f
+  each_not_both (c ∷ cs) s i (x ∷ xs) j w h (inr f) =
       let e = (all c).one_row s i x f.0 h.0 f.1 h.1 f.2 in
-      each-not-both cs s f.1 xs j w (subst (λ m. EachMeans part cs s m xs j) e.1 h.2) f.3
+      each_not_both cs s f.1 xs j w (subst (λ m. EachMeans part cs s m xs j) e.1 h.2) f.3
 
-  each-one-fault : (cs : List C) (s : List ℕ) (i : ℕ) (v w : Fault) → EachFaults part cs s i v → EachFaults part cs s i w → v ≡ w
-  each-one-fault [] s i v w f g = absurd f
-  each-one-fault (c ∷ cs) s i v w (inl f) (inl g) = (all c).one-fault s i v w f g
-  each-one-fault (c ∷ cs) s i v w (inl f) (inr g) = absurd ((all c).not_both s i g.0 g.1 v g.2 f)
-  each-one-fault (c ∷ cs) s i v w (inr f) (inl g) = absurd ((all c).not_both s i f.0 f.1 w f.2 g)
-  each-one-fault (c ∷ cs) s i v w (inr f) (inr g) =
+  each_one_fault : (cs : List C) (s : List ℕ) (i : ℕ) (v w : Fault) → EachFaults part cs s i v → EachFaults part cs s i w → v ≡ w
+  each_one_fault [] s i v w f g = absurd f
+  each_one_fault (c ∷ cs) s i v w (inl f) (inl g) = (all c).one_fault s i v w f g
+  each_one_fault (c ∷ cs) s i v w (inl f) (inr g) = absurd ((all c).not_both s i g.0 g.1 v g.2 f)
+  each_one_fault (c ∷ cs) s i v w (inr f) (inl g) = absurd ((all c).not_both s i f.0 f.1 w f.2 g)
+  each_one_fault (c ∷ cs) s i v w (inr f) (inr g) =
       let e = (all c).one_row s i f.0 g.0 f.1 g.1 f.2 g.2 in
-      each-one-fault cs s g.1 v w (subst (λ m. EachFaults part cs s m v) e.1 f.3) g.3
+      each_one_fault cs s g.1 v w (subst (λ m. EachFaults part cs s m v) e.1 f.3) g.3
 
   each_within : (cs : List C) (s : List ℕ) (i : ℕ) (xs : List R) (j : ℕ) → i ≤ length s → EachMeans part cs s i xs j → j ≤ length s
   each_within [] s i [] j l h = omega arith
@@ -104,12 +104,12 @@ module _ {C R : Type 0} {part : C → Reading R} (all : (c : C) → Decided (par
   each_within (c ∷ cs) s i [] j l h = absurd h
   each_within (c ∷ cs) s i (x ∷ xs) j l h = each_within cs s h.0 xs j ((all c).within s i x h.0 l h.1) h.2
 
-  pub each-decided : (cs : List C) → Decided (each part cs)
-  each-decided cs = record {
-    judged = each-judged cs;
-    one_row = each-one-row cs;
-    one-fault = each-one-fault cs;
-    not_both = each-not-both cs;
+  pub each_decided : (cs : List C) → Decided (each part cs)
+  each_decided cs = record {
+    judged = each_judged cs;
+    one_row = each_one_row cs;
+    one_fault = each_one_fault cs;
+    not_both = each_not_both cs;
     within = each_within cs;
   }
 
@@ -135,11 +135,11 @@ module _ {C R : Type 0} (part : C → Reading R) where
   each-length (c ∷ cs) s i (x ∷ xs) j h = ap suc (each-length cs s h.0 xs j h.2)
 
 module _ {C R : Type 0} {part : C → Reading R} {allowed : C → R → Type 0} {octets : C → R → List ℕ} (all : (c : C) → Written (part c) (allowed c) (octets c)) where
-  each-ok : (cs : List C) (s : List ℕ) (i : ℕ) (xs : List R) (j : ℕ) → EachMeans part cs s i xs j → EachOf allowed cs xs
-  each-ok [] s i [] j h = tt
-  each-ok [] s i (x ∷ xs) j h = h
-  each-ok (c ∷ cs) s i [] j h = h
-  each-ok (c ∷ cs) s i (x ∷ xs) j h = ((all c).ok s i x h.0 h.1, each-ok cs s h.0 xs j h.2)
+  each_ok : (cs : List C) (s : List ℕ) (i : ℕ) (xs : List R) (j : ℕ) → EachMeans part cs s i xs j → EachOf allowed cs xs
+  each_ok [] s i [] j h = tt
+  each_ok [] s i (x ∷ xs) j h = h
+  each_ok (c ∷ cs) s i [] j h = h
+  each_ok (c ∷ cs) s i (x ∷ xs) j h = ((all c).ok s i x h.0 h.1, each_ok cs s h.0 xs j h.2)
 
   each_back : (cs : List C) (xs : List R) → EachOf allowed cs xs → (before after : List ℕ) → EachMeans part cs (before ++ (each_octets octets cs xs ++ after)) (length before) xs (length (before ++ each_octets octets cs xs))
   each_back [] [] ok before after = ap length (append-nil before)
@@ -156,17 +156,17 @@ module _ {C R : Type 0} {part : C → Reading R} {allowed : C → R → Type 0} 
       )
 
   pub each-written : (cs : List C) → Written (each part cs) (EachOf allowed cs) (each_octets octets cs)
-  each-written cs = record { ok = each-ok cs; back = each_back cs }
+  each-written cs = record { ok = each_ok cs; back = each_back cs }
 
 module _ {Q R : Type 0} {rd : Reading R} (of : Q → R) (Held : Q → Type 0) where
-  pub held-decided : Decided rd → (made : R → Q) → ((s : List ℕ) (i : ℕ) (r : R) (j : ℕ) → rd.Means s i r j → (of (made r) ≡ r) × Held (made r))
+  pub held_decided : Decided rd → (made : R → Q) → ((s : List ℕ) (i : ℕ) (r : R) (j : ℕ) → rd.Means s i r j → (of (made r) ≡ r) × Held (made r))
       → ((q p : Q) → of q ≡ of p → Held q → Held p → q ≡ p) → Decided (held of Held rd)
-  held-decided d made fits same = record {
+  held_decided d made fits same = record {
     judged = λ s i. ⊎_elim
         (λ h. let f = fits s i h.0 h.1 h.2 in inl (made h.0, h.1, (subst (λ r. rd.Means s i r h.1) (sym f.0) h.2, f.1)))
         inr (d.judged s i);
     one_row = λ s i q p j l h k. let e = d.one_row s i (of q) (of p) j l h.0 k.0 in (same q p e.0 h.1 k.1, e.1);
-    one-fault = d.one-fault;
+    one_fault = d.one_fault;
     not_both = λ s i q j w h f. d.not_both s i (of q) j w h.0 f;
     within = λ s i q j l h. d.within s i (of q) j l h.0;
   }
@@ -178,11 +178,11 @@ module _ {Q R : Type 0} {rd : Reading R} (of : Q → R) (Held : Q → Type 0) wh
   }
 
 module _ {Q R : Type 0} {rd : Reading R} (of : Q → R) where
-  pub seen-decided : Decided rd → (made : R → Q) → ((r : R) → of (made r) ≡ r) → ((q : Q) → made (of q) ≡ q) → Decided (seen of rd)
-  seen-decided d made there back = record {
+  pub seen_decided : Decided rd → (made : R → Q) → ((r : R) → of (made r) ≡ r) → ((q : Q) → made (of q) ≡ q) → Decided (seen of rd)
+  seen_decided d made there back = record {
     judged = λ s i. ⊎_elim (λ h. inl (made h.0, h.1, subst (λ r. rd.Means s i r h.1) (sym (there h.0)) h.2)) inr (d.judged s i);
     one_row = λ s i q p j l h k. let e = d.one_row s i (of q) (of p) j l h k in (sym (back q) ∙ ap made e.0 ∙ back p, e.1);
-    one-fault = d.one-fault;
+    one_fault = d.one_fault;
     not_both = λ s i q. d.not_both s i (of q);
     within = λ s i q. d.within s i (of q);
   }
@@ -191,137 +191,137 @@ module _ {Q R : Type 0} {rd : Reading R} (of : Q → R) where
   seen-written w = record { ok = λ s i q. w.ok s i (of q); back = λ q. w.back (of q) }
 
 module _ {R : Type 0} {rd : Reading R} (d : Decided rd) where
-  whole-judged : (s : List ℕ) (i : ℕ) → ((r : R) × (j : ℕ) × (whole rd).Means s i r j) ⊎ ((w : Fault) × WholeFaults rd s i w)
-  whole-judged s i =
+  whole_judged : (s : List ℕ) (i : ℕ) → ((r : R) × (j : ℕ) × (whole rd).Means s i r j) ⊎ ((w : Fault) × WholeFaults rd s i w)
+  whole_judged s i =
       ⊎_elim
       (λ h. ⊎_elim (λ l. inr (Over h.1, over h.0 h.1 h.2 l refl)) (λ l. inl (h.0, h.1, (h.2, l))) (order h.1 (length s)))
       (λ f. inr (f.0, in_part f.1))
       (d.judged s i)
 
-  whole-one-fault : (s : List ℕ) (i : ℕ) (v w : Fault) → WholeFaults rd s i v → WholeFaults rd s i w → v ≡ w
-  whole-one-fault s i v w (in_part f) (in_part g) = d.one-fault s i v w f g
-  whole-one-fault s i v w (in_part f) (over r j h l e) = absurd (d.not_both s i r j v h f)
-  whole-one-fault s i v w (over r j h l e) (in_part f) = absurd (d.not_both s i r j w h f)
-  whole-one-fault s i v w (over r j h l e) (over q m k n g) = e ∙ ap Over (d.one_row s i r q j m h k).1 ∙ sym g
+  whole_one_fault : (s : List ℕ) (i : ℕ) (v w : Fault) → WholeFaults rd s i v → WholeFaults rd s i w → v ≡ w
+  whole_one_fault s i v w (in_part f) (in_part g) = d.one_fault s i v w f g
+  whole_one_fault s i v w (in_part f) (over r j h l e) = absurd (d.not_both s i r j v h f)
+  whole_one_fault s i v w (over r j h l e) (in_part f) = absurd (d.not_both s i r j w h f)
+  whole_one_fault s i v w (over r j h l e) (over q m k n g) = e ∙ ap Over (d.one_row s i r q j m h k).1 ∙ sym g
 
-  whole-not-both : (s : List ℕ) (i : ℕ) (r : R) (j : ℕ) (w : Fault) → (whole rd).Means s i r j → WholeFaults rd s i w → ⊥
-  whole-not-both s i r j w h (in_part f) = d.not_both s i r j w h.0 f
-  whole-not-both s i r j w h (over q m k l e) = omega (arith, h.1, l, (d.one_row s i r q j m h.0 k).1)
+  whole_not_both : (s : List ℕ) (i : ℕ) (r : R) (j : ℕ) (w : Fault) → (whole rd).Means s i r j → WholeFaults rd s i w → ⊥
+  whole_not_both s i r j w h (in_part f) = d.not_both s i r j w h.0 f
+  whole_not_both s i r j w h (over q m k l e) = omega (arith, h.1, l, (d.one_row s i r q j m h.0 k).1)
 
-  pub whole-decided : Decided (whole rd)
-  whole-decided = record {
-    judged = whole-judged;
+  pub whole_decided : Decided (whole rd)
+  whole_decided = record {
+    judged = whole_judged;
     one_row = λ s i r q j m h k. d.one_row s i r q j m h.0 k.0;
-    one-fault = whole-one-fault;
-    not_both = whole-not-both;
+    one_fault = whole_one_fault;
+    not_both = whole_not_both;
     within = λ s i r j l h. d.within s i r j l h.0;
   }
 
 -- an octet that stands for one of A: decided where it can be told whether it does, and for one only
 module _ {A : Type 0} {Is : A → ℕ → Type 0} {fault : ℕ → Fault} where
-  item-judged : ((x : ℕ) → ((a : A) × Is a x) ⊎ ((a : A) → Is a x → ⊥)) → (s : List ℕ) (i : ℕ) → ((a : A) × (j : ℕ) × ItemMeans Is s i a j) ⊎ ((w : Fault) × ItemFaults Is fault s i w)
-  item-judged find s i =
+  item_judged : ((x : ℕ) → ((a : A) × Is a x) ⊎ ((a : A) → Is a x → ⊥)) → (s : List ℕ) (i : ℕ) → ((a : A) × (j : ℕ) × ItemMeans Is s i a j) ⊎ ((w : Fault) × ItemFaults Is fault s i w)
+  item_judged find s i =
       ⊎_elim
       (λ l. ⊎_elim (λ f. inl (f.0, i + 1, record { there = l; is = f.1; takes = refl })) (λ f. inr (fault i, bad l f refl)) (find (get_or s i 0)))
       (λ l. inr (Missing, gone l refl))
       (order i (length s))
 
-  item-one-fault : (s : List ℕ) (i : ℕ) (v w : Fault) → ItemFaults Is fault s i v → ItemFaults Is fault s i w → v ≡ w
-  item-one-fault s i v w (bad l f e) (bad m g h) = e ∙ sym h
-  item-one-fault s i v w (bad l f e) (gone m h) = absurd (omega arith)
-  item-one-fault s i v w (gone l e) (bad m g h) = absurd (omega arith)
-  item-one-fault s i v w (gone l e) (gone m h) = e ∙ sym h
+  item_one_fault : (s : List ℕ) (i : ℕ) (v w : Fault) → ItemFaults Is fault s i v → ItemFaults Is fault s i w → v ≡ w
+  item_one_fault s i v w (bad l f e) (bad m g h) = e ∙ sym h
+  item_one_fault s i v w (bad l f e) (gone m h) = absurd (omega arith)
+  item_one_fault s i v w (gone l e) (bad m g h) = absurd (omega arith)
+  item_one_fault s i v w (gone l e) (gone m h) = e ∙ sym h
 
-  item-not-both : (s : List ℕ) (i : ℕ) (a : A) (j : ℕ) (w : Fault) → ItemMeans Is s i a j → ItemFaults Is fault s i w → ⊥
-  item-not-both s i a j w h (bad l f e) = f a h.is
-  item-not-both s i a j w h (gone l e) = omega (arith, h.there)
+  item_not_both : (s : List ℕ) (i : ℕ) (a : A) (j : ℕ) (w : Fault) → ItemMeans Is s i a j → ItemFaults Is fault s i w → ⊥
+  item_not_both s i a j w h (bad l f e) = f a h.is
+  item_not_both s i a j w h (gone l e) = omega (arith, h.there)
 
-  pub item-decided : ((x : ℕ) → ((a : A) × Is a x) ⊎ ((a : A) → Is a x → ⊥)) → ((a b : A) (x : ℕ) → Is a x → Is b x → a ≡ b) → Decided (item Is fault)
-  item-decided find one = record {
-    judged = item-judged find;
+  pub item_decided : ((x : ℕ) → ((a : A) × Is a x) ⊎ ((a : A) → Is a x → ⊥)) → ((a b : A) (x : ℕ) → Is a x → Is b x → a ≡ b) → Decided (item Is fault)
+  item_decided find one = record {
+    judged = item_judged find;
     one_row = λ s i a b j k h g. (one a b (get_or s i 0) h.is g.is, h.takes ∙ sym g.takes);
-    one-fault = item-one-fault;
-    not_both = item-not-both;
+    one_fault = item_one_fault;
+    not_both = item_not_both;
     within = λ s i a j l h. omega (arith, h.takes, h.there);
   }
 
-  item-fault-near : ((n k : ℕ) → place_in n (fault k) ≡ k) → (s : List ℕ) (i : ℕ) (w : Fault) → ItemFaults Is fault s i w → place_in (length s) w ≤ i + 1
-  item-fault-near at s i w (bad l f e) = omega (arith, ap (place_in (length s)) e, at (length s) i)
-  item-fault-near at s i w (gone l e) = omega (arith, ap (place_in (length s)) e)
+  item_fault_near : ((n k : ℕ) → place_in n (fault k) ≡ k) → (s : List ℕ) (i : ℕ) (w : Fault) → ItemFaults Is fault s i w → place_in (length s) w ≤ i + 1
+  item_fault_near at s i w (bad l f e) = omega (arith, ap (place_in (length s)) e, at (length s) i)
+  item_fault_near at s i w (gone l e) = omega (arith, ap (place_in (length s)) e)
 
-  pub item-near : ((n k : ℕ) → place_in n (fault k) ≡ k) → Near (item Is fault) 1
-  item-near at = record { reach = λ s i a j h. omega (arith, h.takes); fault = item-fault-near at }
+  pub item_near : ((n k : ℕ) → place_in n (fault k) ≡ k) → Near (item Is fault) 1
+  item_near at = record { reach = λ s i a j h. omega (arith, h.takes); fault = item_fault_near at }
 
 module _ {A B : Type 0} {first : Reading A} {second : A → Reading B} {m n : ℕ} (one : Near first m) (two : (s : List ℕ) (i : ℕ) (a : A) (mid : ℕ) → first.Means s i a mid → Near (second a) n) where
-  then-fault-near : (s : List ℕ) (i : ℕ) (w : Fault) → ThenFaults first second s i w → place_in (length s) w ≤ i + (m + n)
-  then-fault-near s i w (at_first f) = omega (arith, one.fault s i w f)
-  then-fault-near s i w (at_second a mid h f) = omega (arith, one.reach s i a mid h, (two s i a mid h).fault s mid w f)
+  then_fault_near : (s : List ℕ) (i : ℕ) (w : Fault) → ThenFaults first second s i w → place_in (length s) w ≤ i + (m + n)
+  then_fault_near s i w (at_first f) = omega (arith, one.fault s i w f)
+  then_fault_near s i w (at_second a mid h f) = omega (arith, one.reach s i a mid h, (two s i a mid h).fault s mid w f)
 
-  pub then-near : Near (then first second) (m + n)
-  then-near = record {
+  pub then_near : Near (then first second) (m + n)
+  then_near = record {
     reach = λ s i p j h. omega (arith, one.reach s i p.0 h.mid h.one, (two s i p.0 h.mid h.one).reach s h.mid p.1 j h.two);
-    fault = then-fault-near;
+    fault = then_fault_near;
   }
 
 module _ {C R : Type 0} {part : C → Reading R} {most : C → ℕ} (all : (c : C) → Near (part c) (most c)) where
-  each-reach : (cs : List C) (s : List ℕ) (i : ℕ) (xs : List R) (j : ℕ) → EachMeans part cs s i xs j → j ≤ i + total most cs
-  each-reach [] s i [] j h = omega arith
-  each-reach [] s i (x ∷ xs) j h = absurd h
-  each-reach (c ∷ cs) s i [] j h = absurd h
-  each-reach (c ∷ cs) s i (x ∷ xs) j h = omega (arith, (all c).reach s i x h.0 h.1, each-reach cs s h.0 xs j h.2)
+  each_reach : (cs : List C) (s : List ℕ) (i : ℕ) (xs : List R) (j : ℕ) → EachMeans part cs s i xs j → j ≤ i + total most cs
+  each_reach [] s i [] j h = omega arith
+  each_reach [] s i (x ∷ xs) j h = absurd h
+  each_reach (c ∷ cs) s i [] j h = absurd h
+  each_reach (c ∷ cs) s i (x ∷ xs) j h = omega (arith, (all c).reach s i x h.0 h.1, each_reach cs s h.0 xs j h.2)
 
-  each-fault-near : (cs : List C) (s : List ℕ) (i : ℕ) (w : Fault) → EachFaults part cs s i w → place_in (length s) w ≤ i + total most cs
-  each-fault-near [] s i w f = absurd f
-  each-fault-near (c ∷ cs) s i w (inl f) = omega (arith, (all c).fault s i w f)
-  each-fault-near (c ∷ cs) s i w (inr f) = omega (arith, (all c).reach s i f.0 f.1 f.2, each-fault-near cs s f.1 w f.3)
+  each_fault_near : (cs : List C) (s : List ℕ) (i : ℕ) (w : Fault) → EachFaults part cs s i w → place_in (length s) w ≤ i + total most cs
+  each_fault_near [] s i w f = absurd f
+  each_fault_near (c ∷ cs) s i w (inl f) = omega (arith, (all c).fault s i w f)
+  each_fault_near (c ∷ cs) s i w (inr f) = omega (arith, (all c).reach s i f.0 f.1 f.2, each_fault_near cs s f.1 w f.3)
 
-  pub each-near : (cs : List C) → Near (each part cs) (total most cs)
-  each-near cs = record { reach = each-reach cs; fault = each-fault-near cs }
+  pub each_near : (cs : List C) → Near (each part cs) (total most cs)
+  each_near cs = record { reach = each_reach cs; fault = each_fault_near cs }
 
 pub near_more : {R : Type 0} {rd : Reading R} {m n : ℕ} → m ≤ n → Near rd m → Near rd n
 near_more l h = record { reach = λ s i r j k. omega (arith, h.reach s i r j k); fault = λ s i w k. omega (arith, h.fault s i w k) }
 
-pub seen-near : {Q R : Type 0} {rd : Reading R} {m : ℕ} (of : Q → R) → Near rd m → Near (seen of rd) m
-seen-near of h = record { reach = λ s i q j k. h.reach s i (of q) j k; fault = h.fault }
+pub seen_near : {Q R : Type 0} {rd : Reading R} {m : ℕ} (of : Q → R) → Near rd m → Near (seen of rd) m
+seen_near of h = record { reach = λ s i q j k. h.reach s i (of q) j k; fault = h.fault }
 
-pub held-near : {Q R : Type 0} {rd : Reading R} {m : ℕ} (of : Q → R) (Held : Q → Type 0) → Near rd m → Near (held of Held rd) m
-held-near of Held h = record { reach = λ s i q j k. h.reach s i (of q) j k.0; fault = h.fault }
+pub held_near : {Q R : Type 0} {rd : Reading R} {m : ℕ} (of : Q → R) (Held : Q → Type 0) → Near rd m → Near (held of Held rd) m
+held_near of Held h = record { reach = λ s i q j k. h.reach s i (of q) j k.0; fault = h.fault }
 
-whole-fault-near : {R : Type 0} {rd : Reading R} {m : ℕ} → Near rd m → (s : List ℕ) (i : ℕ) (w : Fault) → WholeFaults rd s i w → place_in (length s) w ≤ i + m
-whole-fault-near h s i w (in_part f) = h.fault s i w f
-whole-fault-near h s i w (over r j k l e) = omega (arith, ap (place_in (length s)) e, h.reach s i r j k)
+whole_fault_near : {R : Type 0} {rd : Reading R} {m : ℕ} → Near rd m → (s : List ℕ) (i : ℕ) (w : Fault) → WholeFaults rd s i w → place_in (length s) w ≤ i + m
+whole_fault_near h s i w (in_part f) = h.fault s i w f
+whole_fault_near h s i w (over r j k l e) = omega (arith, ap (place_in (length s)) e, h.reach s i r j k)
 
-pub whole-near : {R : Type 0} {rd : Reading R} {m : ℕ} → Near rd m → Near (whole rd) m
-whole-near h = record { reach = λ s i r j k. h.reach s i r j k.0; fault = whole-fault-near h }
+pub whole_near : {R : Type 0} {rd : Reading R} {m : ℕ} → Near rd m → Near (whole rd) m
+whole_near h = record { reach = λ s i r j k. h.reach s i r j k.0; fault = whole_fault_near h }
 
-pub total-same : (m q : ℕ) → total (λ (u : ℕ). m) (replicate q 0) ≡ q * m
-total-same m zero = omega arith
-total-same m (suc q) = omega (arith, total-same m q, suc-mul q m)
+pub total_same : (m q : ℕ) → total (λ (u : ℕ). m) (replicate q 0) ≡ q * m
+total_same m zero = omega arith
+total_same m (suc q) = omega (arith, total_same m q, suc-mul q m)
 
 -- what holds of each value and its column holds of two lists one after the other, and of their parts
 module _ {C R : Type 0} (P : C → R → Type 0) where
-  pub each-of-length : (cs : List C) (xs : List R) → EachOf P cs xs → length xs ≡ length cs
-  each-of-length [] [] h = refl
-  each-of-length [] (x ∷ xs) h = absurd h
-  each-of-length (c ∷ cs) [] h = absurd h
-  each-of-length (c ∷ cs) (x ∷ xs) h = ap suc (each-of-length cs xs h.1)
+  pub each_of_length : (cs : List C) (xs : List R) → EachOf P cs xs → length xs ≡ length cs
+  each_of_length [] [] h = refl
+  each_of_length [] (x ∷ xs) h = absurd h
+  each_of_length (c ∷ cs) [] h = absurd h
+  each_of_length (c ∷ cs) (x ∷ xs) h = ap suc (each_of_length cs xs h.1)
 
-  pub each-of-append : (cs ds : List C) (xs ys : List R) → EachOf P cs xs → EachOf P ds ys → EachOf P (cs ++ ds) (xs ++ ys)
-  each-of-append [] ds [] ys h g = g
-  each-of-append [] ds (x ∷ xs) ys h g = absurd h
-  each-of-append (c ∷ cs) ds [] ys h g = absurd h
-  each-of-append (c ∷ cs) ds (x ∷ xs) ys h g = (h.0, each-of-append cs ds xs ys h.1 g)
+  pub each_of_append : (cs ds : List C) (xs ys : List R) → EachOf P cs xs → EachOf P ds ys → EachOf P (cs ++ ds) (xs ++ ys)
+  each_of_append [] ds [] ys h g = g
+  each_of_append [] ds (x ∷ xs) ys h g = absurd h
+  each_of_append (c ∷ cs) ds [] ys h g = absurd h
+  each_of_append (c ∷ cs) ds (x ∷ xs) ys h g = (h.0, each_of_append cs ds xs ys h.1 g)
 
-  pub each-of-parts : (cs ds : List C) (zs : List R) → EachOf P (cs ++ ds) zs → EachOf P cs (take (length cs) zs) × EachOf P ds (drop (length cs) zs)
-  each-of-parts [] ds zs h = (tt, h)
-  each-of-parts (c ∷ cs) ds [] h = absurd h
-  each-of-parts (c ∷ cs) ds (z ∷ zs) h = let k = each-of-parts cs ds zs h.1 in ((h.0, k.0), k.1)
+  pub each_of_parts : (cs ds : List C) (zs : List R) → EachOf P (cs ++ ds) zs → EachOf P cs (take (length cs) zs) × EachOf P ds (drop (length cs) zs)
+  each_of_parts [] ds zs h = (tt, h)
+  each_of_parts (c ∷ cs) ds [] h = absurd h
+  each_of_parts (c ∷ cs) ds (z ∷ zs) h = let k = each_of_parts cs ds zs h.1 in ((h.0, k.0), k.1)
 
-  pub each-of-at : (cs : List C) (xs : List R) (c : C) (x : R) (k : ℕ) → EachOf P cs xs → k < length cs → P (get_or cs k c) (get_or xs k x)
-  each-of-at [] xs c x k h l = absurd (omega arith)
-  each-of-at (d ∷ cs) [] c x k h l = absurd h
-  each-of-at (d ∷ cs) (y ∷ xs) c x zero h l = h.0
-  each-of-at (d ∷ cs) (y ∷ xs) c x (suc k) h l = each-of-at cs xs c x k h.1 (omega arith)
+  pub each_of_at : (cs : List C) (xs : List R) (c : C) (x : R) (k : ℕ) → EachOf P cs xs → k < length cs → P (get_or cs k c) (get_or xs k x)
+  each_of_at [] xs c x k h l = absurd (omega arith)
+  each_of_at (d ∷ cs) [] c x k h l = absurd h
+  each_of_at (d ∷ cs) (y ∷ xs) c x zero h l = h.0
+  each_of_at (d ∷ cs) (y ∷ xs) c x (suc k) h l = each_of_at cs xs c x k h.1 (omega arith)
 
 pub each_of_map : {C R : Type 0} (P Q : C → R → Type 0) → ((c : C) (x : R) → P c x → Q c x) → (cs : List C) (xs : List R) → EachOf P cs xs → EachOf Q cs xs
 each_of_map P Q f [] [] h = tt

@@ -3,7 +3,7 @@ use Rattle.std.proofs.Common.{◌≡◌, ℕ, zero, suc, ◌-◌, ◌≤◌, Lis
 use native.Mathlib.Nat.{sub-zero}
 use lib.ListN.{length-replicate}
 use Rattle.std.proofs.lemmas.Bool.{leb-true, and_parts}
-use Rattle.tables.proofs.WidthFacts.{stored-allowed}
+use Rattle.tables.proofs.WidthFacts.{stored_allowed}
 use Rattle.std.proofs.lemmas.List.{take-replicate, drop-replicate, take-append-drop}
 use Rattle.tables.specs.declared.columns.Column.{Column}
 use Rattle.values.specs.declared.phases.PhaseList.{PhaseList}
@@ -11,9 +11,9 @@ use Rattle.values.specs.declared.Fault.{Fault}
 use Rattle.values.specs.Reading.{at_second, Decided, Written, Near, each_octets}
 use Rattle.values.specs.Numbers.{number, numbers, octets, size, sizes, sent}
 use Rattle.values.specs.Lists.{length_column, listing, listed, Padded, phases, ListAllowed, ListFits, list_octets}
-use Rattle.values.proofs.Parts.{then-decided, then-written, then-near, each-length, each-written, held-decided, held-written, held-near, near_more}
-use Rattle.values.proofs.Number.{number-decided, number-written, number-near, octets-size}
-use Rattle.values.proofs.Table.{numbers-decided, numbers-near, numbers-short}
+use Rattle.values.proofs.Parts.{then_decided, then-written, then_near, each-length, each-written, held_decided, held-written, held_near, near_more}
+use Rattle.values.proofs.Number.{number_decided, number-written, number_near, octets-size}
+use Rattle.values.proofs.Table.{numbers_decided, numbers_near, numbers_short}
 
 abbrev made : ℕ × List ℕ → PhaseList
 made p = record { len = p.0; phases = p.1 ++ replicate (16 - p.0) 0 }
@@ -31,40 +31,40 @@ same l m e p q =
     (λ j. record { len = len j; phases = all j })
 
 -- a length that was read is at most 16
-pub length-few : (s : List ℕ) (i n j : ℕ) → (number length_column).Means s i n j → n ≤ 16
-length-few s i n j h = omega (arith, leb-true n 16 (and_parts _ _ (stored-allowed length_column (sent length_column s i) n h.is)).1)
+pub length_few : (s : List ℕ) (i n j : ℕ) → (number length_column).Means s i n j → n ≤ 16
+length_few s i n j h = omega (arith, leb-true n 16 (and_parts _ _ (stored_allowed length_column (sent length_column s i) n h.is)).1)
 
 module _ (c : Column) where
   fits : (s : List ℕ) (i : ℕ) (p : ℕ × List ℕ) (j : ℕ) → (listing c).Means s i p j → (listed (made p) ≡ p) × Padded (made p)
   fits s i p j h =
-      made_fits p.0 p.1 (each-length number (replicate p.0 c) s h.mid p.1 j h.two ∙ length-replicate p.0 c) (length-few s i p.0 h.mid h.one)
+      made_fits p.0 p.1 (each-length number (replicate p.0 c) s h.mid p.1 j h.two ∙ length-replicate p.0 c) (length_few s i p.0 h.mid h.one)
 
-  pub phases-decided : Decided (phases c)
-  phases-decided = held-decided listed Padded (then-decided (number-decided length_column) (λ n. numbers-decided (replicate n c))) made fits same
+  pub phases_decided : Decided (phases c)
+  phases_decided = held_decided listed Padded (then_decided (number_decided length_column) (λ n. numbers_decided (replicate n c))) made fits same
 
   pub phases-written : Written (phases c) (ListAllowed c) (list_octets c)
   phases-written = held-written listed Padded (then-written (number-written length_column) (λ n. each-written number-written (replicate n c)))
 
-  sizes-same : (n : ℕ) → size c ≡ 1 → sizes (replicate n c) ≡ n
-  sizes-same zero e = refl
-  sizes-same (suc n) e = omega (arith, e, sizes-same n e)
+  sizes_same : (n : ℕ) → size c ≡ 1 → sizes (replicate n c) ≡ n
+  sizes_same zero e = refl
+  sizes_same (suc n) e = omega (arith, e, sizes_same n e)
 
-  pub phases-near : size c ≡ 1 → Near (phases c) 17
-  phases-near e =
-      held-near listed Padded
-      (then-near {m = 1} {n = 16} (number-near length_column)
-      (λ s i n mid h. near_more (omega (arith, sizes-same n e, length-few s i n mid h)) (numbers-near (replicate n c))))
+  pub phases_near : size c ≡ 1 → Near (phases c) 17
+  phases_near e =
+      held_near listed Padded
+      (then_near {m = 1} {n = 16} (number_near length_column)
+      (λ s i n mid h. near_more (omega (arith, sizes_same n e, length_few s i n mid h)) (numbers_near (replicate n c))))
 
-  pub list-short : size c ≡ 1 → (l : PhaseList) → ListFits c l → length (list_octets c l) ≤ 17
-  list-short e l f =
-      omega (arith, length-append (octets length_column l.len) (each_octets octets (replicate l.len c) (take l.len l.phases)), octets-size length_column l.len, numbers-short (replicate l.len c) (take l.len l.phases), sizes-same l.len e, f.0)
+  pub list_short : size c ≡ 1 → (l : PhaseList) → ListFits c l → length (list_octets c l) ≤ 17
+  list_short e l f =
+      omega (arith, length-append (octets length_column l.len) (each_octets octets (replicate l.len c) (take l.len l.phases)), octets-size length_column l.len, numbers_short (replicate l.len c) (take l.len l.phases), sizes_same l.len e, f.0)
 
   -- the first octets' columns
-  pub columns-are : (n : ℕ) → n ≤ 16 → take (n - 0) (replicate 16 c) ≡ replicate n c
-  columns-are n few = ap (λ m. take m (replicate 16 c)) (sub-zero n) ∙ take-replicate n 16 c few
+  pub columns_are : (n : ℕ) → n ≤ 16 → take (n - 0) (replicate 16 c) ≡ replicate n c
+  columns_are n few = ap (λ m. take m (replicate 16 c)) (sub-zero n) ∙ take-replicate n 16 c few
 
   pub room_for : (n : ℕ) → n ≤ 16 → size c ≡ 1 → sizes (take (n - 0) (replicate 16 c)) ≤ 16
-  room_for n few e = omega (arith, ap sizes (columns-are n few), sizes-same n e)
+  room_for n few e = omega (arith, ap sizes (columns_are n few), sizes_same n e)
 
   module _ (s : List ℕ) (from len mid : ℕ) (k : (number length_column).Means s from len mid) where
     zeros-are : drop (len - 0) (replicate {A = ℕ} 16 0) ≡ replicate (16 - len) 0
@@ -73,11 +73,11 @@ module _ (c : Column) where
     pub list_read : (xs : List ℕ) (end : ℕ) → (numbers (take (len - 0) (replicate 16 c))).Means s mid xs end
         → (phases c).Means s from (record { len = len; phases = xs ++ drop (len - 0) (replicate 16 0) }) end
     list_read xs end h =
-        let few = length-few s from len mid k in
-        let two : (numbers (replicate len c)).Means s mid xs end = subst (λ cs. (numbers cs).Means s mid xs end) (columns-are len few) h in
+        let few = length_few s from len mid k in
+        let two : (numbers (replicate len c)).Means s mid xs end = subst (λ cs. (numbers cs).Means s mid xs end) (columns_are len few) h in
         let f = made_fits len xs (each-length number (replicate len c) s mid xs end two ∙ length-replicate len c) few in
         subst (λ z. (phases c).Means s from (record { len = len; phases = xs ++ z }) end) (sym zeros-are)
         (subst (λ p. (listing c).Means s from p end) (sym f.0) (record { mid = mid; one = k; two = two }), f.1)
 
     pub list-faulty : (w : Fault) → (numbers (take (len - 0) (replicate 16 c))).Faults s mid w → (phases c).Faults s from w
-    list-faulty w f = at_second len mid k (subst (λ cs. (numbers cs).Faults s mid w) (columns-are len (length-few s from len mid k)) f)
+    list-faulty w f = at_second len mid k (subst (λ cs. (numbers cs).Faults s mid w) (columns_are len (length_few s from len mid k)) f)

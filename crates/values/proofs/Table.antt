@@ -8,20 +8,20 @@ use Rattle.values.specs.Reading.{Decided, Written, Near, EachOf, each_octets}
 use Rattle.replies.specs.Replies.{Wrote}
 use Rattle.replies.proofs.ReplyFacts.{wrote_more}
 use Rattle.values.specs.Numbers.{number, numbers, Allowed, octets, size, sizes}
-use Rattle.values.proofs.Parts.{each_append, each_after, each-decided, each-written, each-near, octets_append, octets-length, total_append}
-use Rattle.values.proofs.Number.{number-decided, number-written, number-near, octets-size}
+use Rattle.values.proofs.Parts.{each_append, each_after, each_decided, each-written, each_near, octets_append, octets-length, total_append}
+use Rattle.values.proofs.Number.{number_decided, number-written, number_near, octets-size}
 
-pub numbers-decided : (cs : List Column) → Decided (numbers cs)
-numbers-decided = each-decided number-decided
+pub numbers_decided : (cs : List Column) → Decided (numbers cs)
+numbers_decided = each_decided number_decided
 
 pub numbers-written : (cs : List Column) → Written (numbers cs) (EachOf Allowed cs) (each_octets octets cs)
 numbers-written = each-written number-written
 
-pub numbers-near : (cs : List Column) → Near (numbers cs) (sizes cs)
-numbers-near = each-near number-near
+pub numbers_near : (cs : List Column) → Near (numbers cs) (sizes cs)
+numbers_near = each_near number_near
 
-pub numbers-short : (cs : List Column) (xs : List ℕ) → length (each_octets octets cs xs) ≤ sizes cs
-numbers-short = octets-length octets size (λ c x. omega (arith, octets-size c x))
+pub numbers_short : (cs : List Column) (xs : List ℕ) → length (each_octets octets cs xs) ≤ sizes cs
+numbers_short = octets-length octets size (λ c x. omega (arith, octets-size c x))
 
 -- one number more is written
 pub put_more : (cs : List Column) (xs : List ℕ) (i : ℕ) {b a z : List ℕ} {was is j : ℕ} → i < length cs → length xs ≡ length cs

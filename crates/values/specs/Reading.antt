@@ -82,7 +82,7 @@ whole rd = record { Means = λ s i r j. rd.Means s i r j × (length s ≤ j); Fa
 pub record Decided {R : Type 0} (rd : Reading R) : Type 0 where
   pub judged : (s : List ℕ) (i : ℕ) → ((r : R) × (j : ℕ) × rd.Means s i r j) ⊎ ((w : Fault) × rd.Faults s i w)
   pub one_row : (s : List ℕ) (i : ℕ) (r q : R) (j k : ℕ) → rd.Means s i r j → rd.Means s i q k → (r ≡ q) × (j ≡ k)
-  pub one-fault : (s : List ℕ) (i : ℕ) (v w : Fault) → rd.Faults s i v → rd.Faults s i w → v ≡ w
+  pub one_fault : (s : List ℕ) (i : ℕ) (v w : Fault) → rd.Faults s i v → rd.Faults s i w → v ≡ w
   pub not_both : (s : List ℕ) (i : ℕ) (r : R) (j : ℕ) (w : Fault) → rd.Means s i r j → rd.Faults s i w → ⊥
   pub within : (s : List ℕ) (i : ℕ) (r : R) (j : ℕ) → i ≤ length s → rd.Means s i r j → j ≤ length s
 

@@ -1,5 +1,5 @@
-use Rattle.block_requests.proofs.OneTransfer.{one-got-block}
+use Rattle.block_requests.proofs.OneTransfer.{one_got_block}
 use Rattle.block_requests.proofs.a_get_block_has_one_reply.Goals as goal
 
 pub returns : goal.returns
-returns c = one-got-block
+returns c = one_got_block

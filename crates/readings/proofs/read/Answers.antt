@@ -1,7 +1,7 @@
-use Rattle.readings.proofs.Octets.{numbers-reply}
+use Rattle.readings.proofs.Octets.{numbers_reply_lem}
 use Rattle.readings.proofs.read.Goals as goal
 
 pub returns-in-Some : goal.returns-in-Some
 returns-in-Some c =
     let e = c.in-Some.ensures in
-    numbers-reply c.args.reply.now _ _ e.0 e.1 e.2 c.in_ok-numbers_of.ensures
+    numbers_reply_lem c.args.reply.now _ _ e.0 e.1 e.2 c.in_ok-numbers_of.ensures

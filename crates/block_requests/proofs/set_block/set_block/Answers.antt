@@ -1,6 +1,6 @@
 use Rattle.std.proofs.Common.{◌≡◌, sym, refl, ap, ◌∙◌, subst, arith}
 use Rattle.transfers.specs.Gets.{refused}
-use Rattle.blocks.proofs.BlockFacts.{block-fits}
+use Rattle.blocks.proofs.BlockFacts.{block_fits}
 use Rattle.families.specs.Families.{layout_of}
 use Rattle.families.specs.FamilyFacts.{layout_lawful}
 use Rattle.block_requests.specs.Transfers.SetBlockTo.{faulty, taken}
@@ -13,7 +13,7 @@ write_staged-requires g c =
     record {
       sound = c.requires.sound;
       count = c.requires.count;
-      fit = rw c.as_slice.ensures (block-fits o.0 (layout_of o.0) (layout_lawful o.0) c.args.body.now _ o.2);
+      fit = rw c.as_slice.ensures (block_fits o.0 (layout_of o.0) (layout_lawful o.0) c.args.body.now _ o.2);
     }
 
 pub refusal_of-requires : goal.refusal_of-requires

@@ -1,7 +1,7 @@
 use Rattle.std.proofs.Common.{◌≡◌, ◌+◌, ◌-◌, ◌<◌, length, get_or, take, ap, ◌∙◌, arith}
 use Rattle.memory.proofs.Facts.{read_is, read_never}
 use Rattle.blocks.specs.Layouts.{cells_at, number_slots}
-use Rattle.blocks.proofs.CellFacts.{number-loaded, numbers-loaded}
+use Rattle.blocks.proofs.CellFacts.{number_loaded, numbers_loaded}
 use Rattle.blocks.proofs.cells.load_numbers.Goals as goal
 use Rattle.blocks.proofs.cells.load_numbers.Goals.{in-Some, in_default}
 
@@ -19,7 +19,7 @@ loop-i-preserved g c =
     elim c.match-read.branch [
       | in-Some w ↦
           ap (take (i + 1)) w.out-is
-          ∙ number-loaded first c.args.base columns c.loop-i.out i _ c.loop-i-test.true m inv.0
+          ∙ number_loaded first c.args.base columns c.loop-i.out i _ c.loop-i-test.true m inv.0
           (read_is cells at w.in-Some.value l w.in-Some.ensures.value ∙ ap (λ cs. get_or cs at 0) inv.1)
       | in_default w ↦ absurd (read_never cells at l w.in_default.ensures.value)
     ] in
@@ -32,5 +32,5 @@ returns g c =
       sound = inv.3;
       same = inv.1;
       kept = inv.2;
-      loaded = numbers-loaded (g.M.ParameterMemory.cells c.args.memory.now) c.args.base c.args.columns.now c.loop-i.out c.loop-i.i c.loop-i-test.false (omega (arith, c.requires.same)) inv.0;
+      loaded = numbers_loaded (g.M.ParameterMemory.cells c.args.memory.now) c.args.base c.args.columns.now c.loop-i.out c.loop-i.i c.loop-i-test.false (omega (arith, c.requires.same)) inv.0;
     }

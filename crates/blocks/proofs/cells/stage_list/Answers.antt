@@ -1,7 +1,7 @@
 use Rattle.std.proofs.Common.{◌≡◌, ◌+◌, ◌<◌, length, ap, ◌∙◌, arith, rules}
 use Rattle.std.proofs.lemmas.List.{length_push}
 use Rattle.lists.specs.Items.{items, room}
-use Rattle.blocks.proofs.CellFacts.{taken, octet-staged, list-staged}
+use Rattle.blocks.proofs.CellFacts.{taken, octet_staged, list_staged}
 use Rattle.blocks.proofs.cells.stage_list.Goals as goal
 
 pub loop-i-preserved : goal.loop-i-preserved
@@ -15,7 +15,7 @@ loop-i-preserved c =
     let t = taken c.push-in-loop-i.result _ _ _ _ c.push-in-loop-i.ensures.items c.push-in-loop-i.ensures.refused free in (
       c.push-in-loop-i.ensures.room ∙ inv.0,
       ap length t ∙ length_push (items c.loop-i.list) _ ∙ omega (arith, inv.1),
-      octet-staged c.args.base c.args.column c.args.phases.now.phases c.loop-i.i _ _ _ (omega arith) inv.2 t,
+      octet_staged c.args.base c.args.column c.args.phases.now.phases c.loop-i.i _ _ _ (omega arith) inv.2 t,
     )
 
 pub returns : goal.returns
@@ -25,6 +25,6 @@ returns c =
     let begun : length (items c.args.list.now) < room c.args.list.now = omega (arith, c.requires.room) in
     let first = taken c.push.result _ _ _ _ c.push.ensures.items c.push.ensures.refused begun in
     record {
-      pushed = list-staged c.args.base c.args.column c.args.phases.now.phases c.loop-i.i _ c.args.phases.now.len _ _ c.loop-i-test.false c.loop-i.auto.i-end n first inv.2;
+      pushed = list_staged c.args.base c.args.column c.args.phases.now.phases c.loop-i.i _ c.args.phases.now.len _ _ c.loop-i-test.false c.loop-i.auto.i-end n first inv.2;
       room = inv.0 ∙ c.push.ensures.room;
     }

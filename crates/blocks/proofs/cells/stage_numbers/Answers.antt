@@ -1,7 +1,7 @@
 use Rattle.std.proofs.Common.{◌<◌, length, ap, ◌∙◌, arith}
 use Rattle.std.proofs.lemmas.List.{length_push}
 use Rattle.lists.specs.Items.{items, room}
-use Rattle.blocks.proofs.CellFacts.{taken, number-staged, numbers-staged}
+use Rattle.blocks.proofs.CellFacts.{taken, number_staged, numbers_staged}
 use Rattle.blocks.proofs.cells.stage_numbers.Goals as goal
 
 pub loop-i-preserved : goal.loop-i-preserved
@@ -12,11 +12,11 @@ loop-i-preserved c =
     let t = taken c.push.result _ _ _ _ c.push.ensures.items c.push.ensures.refused free in (
       c.push.ensures.room ∙ inv.0,
       ap length t ∙ length_push (items c.loop-i.list) _ ∙ omega (arith, inv.1),
-      number-staged c.args.base c.args.columns.now c.args.numbers.now c.loop-i.i _ _ _ c.loop-i-test.true l inv.2 t,
+      number_staged c.args.base c.args.columns.now c.args.numbers.now c.loop-i.i _ _ _ c.loop-i-test.true l inv.2 t,
     )
 
 pub returns : goal.returns
 returns c = record {
-  pushed = numbers-staged c.args.base c.args.columns.now c.args.numbers.now c.loop-i.i _ _ c.loop-i-test.false c.requires.same c.loop-i.invariant.2;
+  pushed = numbers_staged c.args.base c.args.columns.now c.args.numbers.now c.loop-i.i _ _ c.loop-i-test.false c.requires.same c.loop-i.invariant.2;
   room = c.loop-i.invariant.0;
 }

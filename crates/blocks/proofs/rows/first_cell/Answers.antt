@@ -2,22 +2,22 @@ use Rattle.std.proofs.Common.{◌≡◌, ◌+◌, ◌/◌, ◌%◌, ◌<◌, ◌
 use Rattle.tables.specs.Places.{Stands, cell_of}
 use Rattle.tables.proofs.PlaceFacts.{sizes}
 use Rattle.headers.specs.Headers.{row_place}
-use Rattle.blocks.proofs.RowFacts.{second-within, row_stands, row_within}
+use Rattle.blocks.proofs.RowFacts.{second_within, row_stands, row_within}
 use Rattle.blocks.proofs.rows.first_cell.Goals as goal
 
 pub overflow_cast-second : goal.overflow_cast-second
-overflow_cast-second g c = let d = second-within g.F.Family.family c.args.spans c.args.row c.requires.table c.requires.row in search rules
+overflow_cast-second g c = let d = second_within g.F.Family.family c.args.spans c.args.row c.requires.table c.requires.row in search rules
 
 pub overflow_add-second : goal.overflow_add-second
 overflow_add-second g c =
-    let d = second-within g.F.Family.family c.args.spans c.args.row c.requires.table c.requires.row in
-    let t = c.requires.table.second-last in
+    let d = second_within g.F.Family.family c.args.spans c.args.row c.requires.table c.requires.row in
+    let t = c.requires.table.second_last in
     let few = (sizes g.F.Family.family).few_seconds in search rules
 
 pub index-requires : goal.index-requires
 index-requires g c =
-    let d = second-within g.F.Family.family c.args.spans c.args.row c.requires.table c.requires.row in
-    let t = c.requires.table.second-last in search rules
+    let d = second_within g.F.Family.family c.args.spans c.args.row c.requires.table c.requires.row in
+    let t = c.requires.table.second_last in search rules
 
 pub returns-in-Some : goal.returns-in-Some
 returns-in-Some g c =

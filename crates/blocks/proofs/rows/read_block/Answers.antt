@@ -4,15 +4,15 @@ use Rattle.values.specs.Reading.{at_first}
 use Rattle.lists.specs.Items.{items}
 use Rattle.headers.specs.Headers.{rows_in}
 use Rattle.blocks.specs.Rows.{Staged}
-use Rattle.blocks.proofs.RowFacts.{few-rows}
-use Rattle.blocks.proofs.BlockFacts.{spans-missed, in_table, count-missed, rows-missed, rows-over, block-meant, fits-rows}
+use Rattle.blocks.proofs.RowFacts.{few_rows}
+use Rattle.blocks.proofs.BlockFacts.{spans_missed, in_table, count-missed, rows-missed, rows-over, block-meant, fits_rows}
 use Rattle.blocks.proofs.rows.read_block.Goals as goal
 
 pub returns-in_err-spans : goal.returns-in_err-spans
 returns-in_err-spans g c =
     let f = g.F.Family in
     let p = err_from_is_err_and c.from_residual.result c.from_residual.ensures.1 in
-    rw (p.1, p.2) (at_first (spans-missed f.family f.layout c.args.block.now c.last_row-last.result c.last_row-last.ensures _ c.in_err-spans.ensures))
+    rw (p.1, p.2) (at_first (spans_missed f.family f.layout c.args.block.now c.last_row-last.result c.last_row-last.ensures _ c.in_err-spans.ensures))
 
 pub returns-in_err-from : goal.returns-in_err-from
 returns-in_err-from g c =
@@ -30,7 +30,7 @@ read_rows-requires g c =
     record {
       table = t;
       from = c.in_ok-from.ensures.0;
-      room = omega (arith, c.requires.room, fits-rows f.family sp.row (length f.layout.carried) 1024 t g.met.F.Family.small.writes);
+      room = omega (arith, c.requires.room, fits_rows f.family sp.row (length f.layout.carried) 1024 t g.met.F.Family.small.writes);
     }
 
 pub returns-in_err-end : goal.returns-in_err-end

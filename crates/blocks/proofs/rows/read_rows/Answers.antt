@@ -2,7 +2,7 @@ use Rattle.std.proofs.Common.{◌≡◌, ◌+◌, ◌*◌, ◌<◌, ◌≤◌, �
 use Rattle.lists.specs.Items.{items, room}
 use Rattle.tables.specs.Places.{cell_of}
 use Rattle.values.specs.Reading.{EachOf}
-use Rattle.values.proofs.Parts.{each-of-length}
+use Rattle.values.proofs.Parts.{each_of_length}
 use Rattle.headers.specs.Headers.{rows_in, row_place}
 use Rattle.blocks.specs.Layouts.{Holds, placed}
 use Rattle.blocks.proofs.LayoutFacts.{placed-length}
@@ -33,7 +33,7 @@ loop-row-preserved g c =
     let base = c.first_cell.result in
     let met = g.met.F.Family.lawful in
     let ok = met.written.ok c.args.block.now c.loop-row.pos x.row x.end h.1 in
-    let many : length (f.layout.values x.row) ≡ length f.layout.carried = each-of-length (Holds f.family) f.layout.carried (f.layout.values x.row) (met.held x.row ok) in
+    let many : length (f.layout.values x.row) ≡ length f.layout.carried = each_of_length (Holds f.family) f.layout.carried (f.layout.values x.row) (met.held x.row ok) in
     let w = placed base f.layout.carried (f.layout.values x.row) in
     let n : length (items c.stage.new.list) ≡ length (items c.loop-row.list) + length w = ap length c.stage.ensures.pushed ∙ length-append (items c.loop-row.list) w in
     let p : items c.stage.new.list ≡ items c.loop-row.list ++ placed (cell_of (row_place f.family c.args.spans k)) f.layout.carried (f.layout.values x.row) =

@@ -5,17 +5,17 @@ use Rattle.tables.proofs.PlaceFacts.{sizes}
 use Rattle.replies.specs.Replies.{Wrote}
 use Rattle.replies.proofs.ReplyFacts.{wrote_more}
 use Rattle.headers.specs.Headers.{rows_in, spans_octets, count_octets}
-use Rattle.headers.proofs.HeaderFacts.{count-short, spans-short}
+use Rattle.headers.proofs.HeaderFacts.{count_short, spans_short}
 use Rattle.blocks.specs.Rows.{rows_octets, rows_shown}
-use Rattle.blocks.proofs.RowFacts.{few-rows, few_in_all}
-use Rattle.blocks.proofs.BlockFacts.{fits-rows}
+use Rattle.blocks.proofs.RowFacts.{few_rows, few_in_all}
+use Rattle.blocks.proofs.BlockFacts.{fits_rows}
 use Rattle.blocks.proofs.rows.write_block.Goals as goal
 
 pub put_count-requires : goal.put_count-requires
 put_count-requires g c =
     record {
-      rows = omega (arith, c.rows.ensures, few-rows g.F.Family.family c.args.spans c.requires.table, few_in_all g.F.Family.family);
-      room = omega (arith, c.requires.room, c.put.ensures.len, c.put-2.ensures.len, c.put_spans.ensures.len, spans-short c.last_row.result.second c.args.spans);
+      rows = omega (arith, c.rows.ensures, few_rows g.F.Family.family c.args.spans c.requires.table, few_in_all g.F.Family.family);
+      room = omega (arith, c.requires.room, c.put.ensures.len, c.put-2.ensures.len, c.put_spans.ensures.len, spans_short c.last_row.result.second c.args.spans);
     }
 
 pub write_rows-requires : goal.write_rows-requires
@@ -26,7 +26,7 @@ write_rows-requires g c =
       count = c.requires.count;
       bounded = c.requires.bounded;
       table = c.requires.table;
-      room = omega (arith, c.requires.room, c.put.ensures.len, c.put-2.ensures.len, c.put_spans.ensures.len, spans-short c.last_row.result.second c.args.spans, c.put_count.ensures.len, count-short c.rows.result, fits-rows f.family c.args.spans f.layout.most 1014 c.requires.table g.met.F.Family.small.reply);
+      room = omega (arith, c.requires.room, c.put.ensures.len, c.put-2.ensures.len, c.put_spans.ensures.len, spans_short c.last_row.result.second c.args.spans, c.put_count.ensures.len, count_short c.rows.result, fits_rows f.family c.args.spans f.layout.most 1014 c.requires.table g.met.F.Family.small.reply);
     }
 
 pub returns : goal.returns
@@ -45,5 +45,5 @@ returns g c =
       written =
           subst (Wrote c.args.reply.now c.args.position.now.length c.write_rows.new.reply c.write_rows.new.position.length)
           (λ j. 0 ∷ id j ∷ (spans_octets (second j) sp ++ (count_octets (c.rows.ensures j) ++ shown))) w;
-      size = omega (arith, c.write_rows.ensures.size, c.put.ensures.len, c.put-2.ensures.len, c.put_spans.ensures.len, spans-short c.last_row.result.second sp, c.put_count.ensures.len, count-short c.rows.result, fits-rows f.family sp f.layout.most 1014 c.requires.table g.met.F.Family.small.reply);
+      size = omega (arith, c.write_rows.ensures.size, c.put.ensures.len, c.put-2.ensures.len, c.put_spans.ensures.len, spans_short c.last_row.result.second sp, c.put_count.ensures.len, count_short c.rows.result, fits_rows f.family sp f.layout.most 1014 c.requires.table g.met.F.Family.small.reply);
     }

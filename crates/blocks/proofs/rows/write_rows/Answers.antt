@@ -5,7 +5,7 @@ use Rattle.replies.proofs.ReplyFacts.{wrote_more}
 use Rattle.headers.specs.Headers.{rows_in, row_place}
 use Rattle.blocks.specs.Layouts.{Holds, cells_at}
 use Rattle.blocks.specs.Rows.{row_in, rows_octets, rows_shown}
-use Rattle.blocks.proofs.LayoutFacts.{cells-held}
+use Rattle.blocks.proofs.LayoutFacts.{cells_held}
 use Rattle.blocks.proofs.RowFacts.{row_stands, room_left, octets_more, one_more_of}
 use Rattle.blocks.proofs.rows.write_rows.Given as given
 use Rattle.blocks.proofs.rows.write_rows.Goals as goal
@@ -23,7 +23,7 @@ emit-requires g c =
     c.load-shown.ensures.loaded ∙ (λ j. f.layout.row_of (cells_at (inv.2 j) (c.first_cell.ensures.cell j) f.layout.carried)) in
     let met = g.met.F.Family.lawful in
     record {
-      fits = subst f.layout.fits (sym shown) (met.loaded _ (cells-held f.family _ _ (row_stands f.family sp k c.requires.table less) cells c.requires.bounded f.layout.carried met.stand));
+      fits = subst f.layout.fits (sym shown) (met.loaded _ (cells_held f.family _ _ (row_stands f.family sp k c.requires.table less) cells c.requires.bounded f.layout.carried met.stand));
       room = omega (arith, left, inv.1);
     }
 
@@ -38,7 +38,7 @@ loop-row-preserved g c =
     c.load-shown.ensures.loaded ∙ (λ j. f.layout.row_of (cells_at (inv.2 j) (c.first_cell.ensures.cell j) f.layout.carried)) in
     let less : k < rows_in sp = omega arith in
     let met = g.met.F.Family.lawful in
-    let fit = subst f.layout.fits (sym shown) (met.loaded _ (cells-held f.family _ _ (row_stands f.family sp k c.requires.table less) cells c.requires.bounded f.layout.carried met.stand)) in
+    let fit = subst f.layout.fits (sym shown) (met.loaded _ (cells_held f.family _ _ (row_stands f.family sp k c.requires.table less) cells c.requires.bounded f.layout.carried met.stand)) in
     let few = met.short c.load-shown.result fit in
     let e : rows_octets f.layout.octets k (rows_shown cells f.family f.layout sp k) ++ f.layout.octets c.load-shown.result ≡ rows_octets f.layout.octets (k + 1) (rows_shown cells f.family f.layout sp (k + 1)) =
     ap (λ r. rows_octets f.layout.octets k (rows_shown cells f.family f.layout sp k) ++ f.layout.octets r) shown ∙ sym (octets_more f.layout.octets (row_in cells f.family f.layout sp) k) in (

@@ -10,13 +10,13 @@ in_row-column-requires c = at_below _ _ _ c.shape-shape.ensures
 pub returns : goal.returns
 returns c = (
   record {
-    first-least = c.indices_of-first.ensures.first.0;
-    first-last = c.indices_of-first.ensures.first.1;
-    second-least = c.indices_of-first.ensures.second.0;
-    second-last = c.indices_of-first.ensures.second.1;
-    column-least = c.in_row-column.ensures.column.0;
-    column-last = c.in_row-column.ensures.column.1;
-    octet-within = c.in_row-column.ensures.octet;
+    first_least = c.indices_of-first.ensures.first.0;
+    first_last = c.indices_of-first.ensures.first.1;
+    second_least = c.indices_of-first.ensures.second.0;
+    second_last = c.indices_of-first.ensures.second.1;
+    column_least = c.in_row-column.ensures.column.0;
+    column_last = c.in_row-column.ensures.column.1;
+    octet_within = c.in_row-column.ensures.octet;
   },
   cell_made _ _ _ c.shape-shape.ensures c.in_ok-family.ensures.0 c.indices_of-first.ensures.row c.in_row-column.ensures.at,
 )

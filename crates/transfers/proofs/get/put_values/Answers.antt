@@ -4,7 +4,7 @@ use Rattle.replies.proofs.ReplyFacts.{wrote_more, wrote_later}
 use Rattle.transfers.specs.declared.refusal.Refusal.TheVariants.{NoNumber}
 use Rattle.transfers.specs.Items.{address_at, count_in}
 use Rattle.transfers.specs.Gets.{Value, Nameless}
-use Rattle.transfers.proofs.GetFacts.{values_more, octets_more, first-nameless, item_count}
+use Rattle.transfers.proofs.GetFacts.{values_more, octets_more, first_nameless, item_count}
 use Rattle.transfers.proofs.get.put_values.Goals as goal
 
 pub returns-in_default : goal.returns-in_default
@@ -22,7 +22,7 @@ returns-in_default g c =
       kept = c.value_at.ensures.kept ∙ inv.3;
       outcome = (
         item,
-        first-nameless _ body _ (count_in body) item h inv.0.1 (subst Nameless a c.in_default.ensures.value),
+        first_nameless _ body _ (count_in body) item h inv.0.1 (subst Nameless a c.in_default.ensures.value),
         ap NoNumber (omega arith),
       );
       later = wrote_later (omega arith) inv.0.2;

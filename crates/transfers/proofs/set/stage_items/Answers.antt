@@ -4,7 +4,7 @@ use Rattle.lists.specs.Items.{items as listed}
 use Rattle.tables.specs.Allowed.{Stores}
 use Rattle.transfers.specs.Items.{count_in, address_at, sent_at}
 use Rattle.transfers.specs.Sets.{Writes}
-use Rattle.transfers.proofs.SetFacts.{item_count, first-fault, writes_more}
+use Rattle.transfers.proofs.SetFacts.{item_count, first_fault, writes_more}
 use Rattle.transfers.proofs.set.stage_items.Goals as goal
 
 pub returns-in_err-write : goal.returns-in_err-write
@@ -15,7 +15,7 @@ returns-in_err-write c =
     let count : count_in body ≡ length c.args.items.now / 6 = omega arith in
     rw (p.1, p.2) (
       c.loop-item.item,
-      first-fault body (listed c.loop-item.staged) c.loop-item.item _ (omega arith) c.loop-item.invariant.0 (c.in_err-write.ensures body c.requires.items count),
+      first_fault body (listed c.loop-item.staged) c.loop-item.item _ (omega arith) c.loop-item.invariant.0 (c.in_err-write.ensures body c.requires.items count),
     )
 
 pub loop-item-preserved : goal.loop-item-preserved

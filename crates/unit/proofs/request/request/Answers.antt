@@ -1,10 +1,10 @@
 use Rattle.std.proofs.Common.{◌≡◌, ◌/◌, ◌%◌, List, [], ◌∷◌, length, sym, refl, ap, ◌∙◌, subst, inl, inr, ⊎_elim, arith, rules}
 use Rattle.transfers.specs.Gets.{accepted, refused}
 use Rattle.replies.specs.Replies.{padded}
-use Rattle.replies.proofs.ReplyFacts.{padded_from, padded-same}
+use Rattle.replies.proofs.ReplyFacts.{padded_from, padded_same}
 use Rattle.transfers.specs.Refusals.{unanswered, refusal_octets}
 use Rattle.transfers.specs.declared.refusal.Refusal.TheVariants.{MemoryCount, Room}
-use Rattle.unit.proofs.RequestFacts.{answered-number}
+use Rattle.unit.proofs.RequestFacts.{answered_number}
 use Rattle.std.proofs.lemmas.Bool.{cond-false}
 use Rattle.unit.specs.Steps.{Answered, Counts, Roomy, moment, lent}
 use Rattle.unit.specs.Steps.Step.{wrong_count, no_room, answered}
@@ -99,9 +99,9 @@ returns-in-Err g c =
             number = c.refuse.ensures.number;
             length = c.refuse.ensures.length ∙ sym (ap length (cond-false (unanswered e) [] (refusal_octets e) o.2));
             memory =
-                padded-same (refusal_octets e) c.args.reply.now c.answer_octets.new.reply _ c.refuse.ensures.memory c.answer_octets.ensures.later
+                padded_same (refusal_octets e) c.args.reply.now c.answer_octets.new.reply _ c.refuse.ensures.memory c.answer_octets.ensures.later
                 ∙ sym (cond-false (unanswered e) c.args.reply.now (padded (refusal_octets e) c.args.reply.now) o.2);
             mode = refl;
           };
-      lists = λ n. absurd (answered-number e o.2 (⊎_elim (λ x. inl (sym c.refuse.ensures.number ∙ x)) (λ x. inr (sym c.refuse.ensures.number ∙ x)) n));
+      lists = λ n. absurd (answered_number e o.2 (⊎_elim (λ x. inl (sym c.refuse.ensures.number ∙ x)) (λ x. inr (sym c.refuse.ensures.number ∙ x)) n));
     }

@@ -6,7 +6,7 @@ use Rattle.replies.proofs.ReplyFacts.{wrote_more}
 use Rattle.values.specs.Reading.{each_octets}
 use Rattle.values.specs.Numbers.{octets, size}
 use Rattle.values.specs.Lists.{ListFits, list_octets}
-use Rattle.values.proofs.Table.{numbers-short}
+use Rattle.values.proofs.Table.{numbers_short}
 use Rattle.families.specs.Families.{family_columns}
 use Rattle.families.proofs.phase.PhasesFamily.emit.Goals as goal
 
@@ -14,7 +14,7 @@ pub put_list-requires : goal.put_list-requires
 put_list-requires c =
     let row = c.args.row.now in
     let e = c.columns_of-columns.ensures in
-    let short = subst (λ cs. length (each_octets octets (take 21 cs) row.numbers) ≤ 22) (sym e) (numbers-short (take 21 (family_columns Phase)) row.numbers) in
+    let short = subst (λ cs. length (each_octets octets (take 21 cs) row.numbers) ≤ 22) (sym e) (numbers_short (take 21 (family_columns Phase)) row.numbers) in
     record {
       room = omega (arith, c.put_values.ensures.len, short, c.requires.room);
       narrow = ap (λ cs. size (get_or cs 21 none)) e;

@@ -2,7 +2,7 @@ use Rattle.std.proofs.Common.{◌<◌, ◌≤◌, ◌⊎◌, ◌∷◌, length, 
 use Rattle.memory.specs.Top.{top_of}
 use Rattle.memory.specs.Held.{packed_cells}
 use Rattle.memory.proofs.Facts.{top_narrow, takes_yes, takes_no, written_yes, written_no}
-use Rattle.memory.proofs.Octets.{length_packed, length_packed_none, set-wide-at, set_narrow_at, spare_same, octet_end, width_wide, width_narrow}
+use Rattle.memory.proofs.Octets.{length_packed, length_packed_none, set_wide_at, set_narrow_at, spare_same, octet_end, width_wide, width_narrow}
 use Rattle.memory.proofs.packed.PackedMemoryParameterMemory.write.Goals as goal
 
 pub returns-then-self-ne-PACKED_OCTETS : goal.returns-then-self-ne-PACKED_OCTETS
@@ -38,7 +38,7 @@ returns-then-is_wide c =
       sound = tt;
       test = sym (takes_yes _ _ _ at< low);
       after =
-          set-wide-at _ _ _ _ _ _ c.octet_of-from.ensures (omega arith) (omega arith) (sym c.if-is_wide.ensures) (omega arith) (omega arith) (omega arith)
+          set_wide_at _ _ _ _ _ _ c.octet_of-from.ensures (omega arith) (omega arith) (sym c.if-is_wide.ensures) (omega arith) (omega arith) (omega arith)
           ∙ sym (written_yes _ _ _ at< low);
       kept = ap (λ os. c.args.self.now.octets.ghost_name ∷ os) (spare_same _ _ (omega arith) (length-set _ _ _ ∙ length-set _ _ _));
     }
