@@ -1,8 +1,7 @@
 -- Headers, octet by octet.
 use Rattle.std.proofs.Common.{◌≡◌, ℕ, zero, suc, ◌+◌, ◌-◌, ◌/◌, ◌%◌, ◌<◌, ◌≤◌, min, Bool, true, false, cond, ltb, ◌⊎◌, List, [], ◌∷◌, ◌++◌, map, length, get_or, take, drop, sym, refl, ap, ◌∙◌, subst, inl, inr, ⊎_elim, add-zero, arith, length-append, take_all}
 use Rattle.std.proofs.lemmas.List.{take_rest, get_or-drop, length-drop, take_more, drop_more, take-append-drop, get_or_at}
-use Rattle.std.proofs.lemmas.Bool.{cases_eq}
-use Rattle.std.proofs.str.Laws.{order}
+use Rattle.std.proofs.lemmas.Bool.{cases_eq, cases_lt}
 use Rattle.tables.specs.declared.family.FamilyId.{FamilyId}
 use Rattle.tables.specs.declared.family.FamilyId.TheVariants.{Phase, VehicleDetector, PedestrianDetector, Pattern, Split, Action, Sequence}
 use Rattle.tables.specs.Families.{shape_of}
@@ -89,8 +88,8 @@ family_near = seen_near (λ f. (tt, f)) (then_near {m = 1} {n = 1} (item_near (�
 find_upto : (last x : ℕ) → ((v : ℕ) × UpTo last v x) ⊎ ((v : ℕ) → UpTo last v x → ⊥)
 find_upto last x =
     ⊎_elim (λ l. inr (λ v h. omega (arith, h.0, h.1, l)))
-    (λ l. ⊎_elim (λ m. inr (λ v h. omega (arith, h.0, h.2, m))) (λ m. inl (x, (refl, l, m))) (order last x))
-    (order x 1)
+    (λ l. ⊎_elim (λ m. inr (λ v h. omega (arith, h.0, h.2, m))) (λ m. inl (x, (refl, l, m))) (cases_lt last x))
+    (cases_lt x 1)
 
 upto_decided : (last : ℕ) → Decided (item (UpTo last) NotInTable)
 upto_decided last = item_decided (find_upto last) (λ v w x h k. h.0 ∙ sym k.0)

@@ -1,8 +1,7 @@
 -- A number: what its octets come to.
 use Rattle.std.proofs.Common.{◌≡◌, ℕ, ◌+◌, ◌-◌, ◌*◌, ◌/◌, ◌%◌, ◌≤◌, Bool, true, false, cond, eqb, ◌⊎◌, List, [], ◌∷◌, ◌++◌, length, get_or, Some, None, Option, sym, refl, ap, ◌∙◌, subst, inl, inr, ⊎_elim, append_assoc, arith, length-append}
 use Rattle.std.proofs.lemmas.List.{get_or_at}
-use Rattle.std.proofs.lemmas.Bool.{cond-true, cond-false, and_parts, not-true}
-use Rattle.std.proofs.str.Laws.{order}
+use Rattle.std.proofs.lemmas.Bool.{cond-true, cond-false, and_parts, not-true, cases_lt}
 use Rattle.tables.specs.declared.columns.Column.{Column}
 use Rattle.tables.specs.declared.columns.Kind.{Kind}
 use Rattle.tables.specs.declared.columns.Kind.TheVariants.{Number, DetectorOptions, ActionPattern, PhaseList}
@@ -24,7 +23,7 @@ judged c s i =
     (λ ok. inl (ok.0, i + size c, record { there = h; is = ok.1; takes = refl }))
     (λ no. inr (NotAllowed i, bad h no refl))
     (some_or_none (stored c (sent c s i))))
-    (order (length s) (i + size c))
+    (cases_lt (length s) (i + size c))
 
 one_fault : (c : Column) (s : List ℕ) (i : ℕ) (v w : Fault) → NumberFaults c s i v → NumberFaults c s i w → v ≡ w
 one_fault c s i v w (bad l f e) (bad m g h) = e ∙ sym h

@@ -1,6 +1,6 @@
 -- Parts one after the other: each combinator keeps what holds of its parts.
 use Rattle.std.proofs.Common.{◌≡◌, ℕ, zero, suc, ◌+◌, ◌*◌, ◌<◌, ◌≤◌, ◌⊎◌, List, [], ◌∷◌, ◌++◌, length, get_or, take, drop, replicate, sym, refl, ap, ◌∙◌, subst, inl, inr, ⊎_elim, append_assoc, append-nil, suc-mul, arith, length-append}
-use Rattle.std.proofs.str.Laws.{order}
+use Rattle.std.proofs.lemmas.Bool.{cases_lt}
 use Rattle.values.specs.declared.Fault.{Fault}
 use Rattle.values.specs.declared.Fault.TheVariants.{Over, Missing}
 use Rattle.values.specs.Reading.{Reading, ThenMeans, ThenFaults, at_first, at_second, then, EachMeans, EachFaults, each, held, seen, whole, WholeFaults, in_part, over, Decided, Written, Near, EachOf, each_octets, total, item, ItemMeans, ItemFaults, bad, gone, place_in}
@@ -194,7 +194,7 @@ module _ {R : Type 0} {rd : Reading R} (d : Decided rd) where
   whole_judged : (s : List ℕ) (i : ℕ) → ((r : R) × (j : ℕ) × (whole rd).Means s i r j) ⊎ ((w : Fault) × WholeFaults rd s i w)
   whole_judged s i =
       ⊎_elim
-      (λ h. ⊎_elim (λ l. inr (Over h.1, over h.0 h.1 h.2 l refl)) (λ l. inl (h.0, h.1, (h.2, l))) (order h.1 (length s)))
+      (λ h. ⊎_elim (λ l. inr (Over h.1, over h.0 h.1 h.2 l refl)) (λ l. inl (h.0, h.1, (h.2, l))) (cases_lt h.1 (length s)))
       (λ f. inr (f.0, in_part f.1))
       (d.judged s i)
 
@@ -224,7 +224,7 @@ module _ {A : Type 0} {Is : A → ℕ → Type 0} {fault : ℕ → Fault} where
       ⊎_elim
       (λ l. ⊎_elim (λ f. inl (f.0, i + 1, record { there = l; is = f.1; takes = refl })) (λ f. inr (fault i, bad l f refl)) (find (get_or s i 0)))
       (λ l. inr (Missing, gone l refl))
-      (order i (length s))
+      (cases_lt i (length s))
 
   item_one_fault : (s : List ℕ) (i : ℕ) (v w : Fault) → ItemFaults Is fault s i v → ItemFaults Is fault s i w → v ≡ w
   item_one_fault s i v w (bad l f e) (bad m g h) = e ∙ sym h
