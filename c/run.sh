@@ -9,7 +9,8 @@ root=${here%/*}
 script=${1-$root/crates/bench/stdin}
 expected=${2-$root/crates/bench/stdout}
 out=$root/target/c
-mkdir -p "$out"
+archive=$root/target/staticlib/libcabinet.a
+mkdir -p "$out" "${archive%/*}"
 
 passed=0
 failed=0
@@ -38,10 +39,11 @@ run() {
     fi
 }
 
-library() { (cd "$root" && rt staticlib cabinet); }
+# Builds the entries of the crate cabinet_c, which C links as libcabinet.a.
+library() { (cd "$root/crates/cabinet_c" && rt lib && cp out/libcabinet_c.a "$archive"); }
 
 build library
-build gcc -std=c99 -Wall -Wextra -Werror -O2 -I "$here" "$here/client.c" "$root/target/staticlib/libcabinet.a" -o "$out/client"
+build gcc -std=c99 -Wall -Wextra -Werror -O2 -I "$here" "$here/client.c" "$archive" -o "$out/client"
 run words "$script" "$expected"
 run packed "$script" "$expected"
 run refusals /dev/null "$here/refusals.expected"
