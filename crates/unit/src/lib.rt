@@ -9,3 +9,6 @@ pub mod start;
 pub mod states;
 #[cfg(test)]
 mod tests;
+
+// A refusal is what a get and a set answer too, so it stands with them.
+pub use transfers::refusal;
