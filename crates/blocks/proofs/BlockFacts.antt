@@ -1,22 +1,20 @@
 -- A block, part by part.
-use Rattle.std.proofs.Common.{◌≡◌, ℕ, zero, suc, ◌+◌, ◌*◌, ◌<◌, ◌≤◌, List, [], ◌∷◌, ◌++◌, length, get_or, replicate, sym, refl, ap, ◌∙◌, subst, append_assoc, mul-le-mul_right, arith}
+use Rattle.std.proofs.Common.{◌≡◌, ℕ, zero, suc, ◌+◌, ◌*◌, ◌<◌, ◌≤◌, List, [], ◌∷◌, ◌++◌, length, get_or, replicate, sym, refl, subst, mul-le-mul_right, arith}
 use Rattle.tables.specs.declared.family.FamilyId.{FamilyId}
 use Rattle.tables.specs.declared.place.Place.{Place}
 use Rattle.tables.specs.declared.work.StagedWrite.{StagedWrite}
 use Rattle.tables.specs.Families.{shape_of, rows_of}
 use Rattle.tables.specs.Places.{cell_of}
-use Rattle.replies.specs.Replies.{Wrote}
-use Rattle.replies.proofs.ReplyFacts.{wrote_more}
 use Rattle.values.specs.declared.Fault.{Fault}
 use Rattle.values.specs.declared.Fault.TheVariants.{Over}
-use Rattle.values.specs.Reading.{at_first, at_second, in_part, over, whole, Decided, Near, Reading, EachOf}
+use Rattle.values.specs.Reading.{at_first, at_second, in_part, over, Decided, Near, EachOf}
 use Rattle.values.proofs.Parts.{then_decided, then_near, whole_decided, whole_near, near_more}
 use Rattle.headers.specs.declared.Spans.{Spans}
-use Rattle.headers.specs.Headers.{InTable, rows_in, row_at, row_place, spans_in, spans_of, count, count_octets, spans_octets, header_octets}
-use Rattle.headers.proofs.HeaderFacts.{spans_in_table, spans_decided, spans_near, exactly_decided, count_near, count_short}
+use Rattle.headers.specs.Headers.{InTable, rows_in, row_at, row_place, spans_in, spans_of, count, count_octets}
+use Rattle.headers.proofs.HeaderFacts.{spans_in_table, spans_decided, spans_near, exactly_decided, count_near}
 use Rattle.blocks.specs.Layouts.{Layout, Lawful, Small, placed}
-use Rattle.blocks.specs.Rows.{rows, rows_octets, writes_from, Staged}
-use Rattle.blocks.specs.Blocks.{contents, block_octets, BlockMeans}
+use Rattle.blocks.specs.Rows.{rows, writes_from, Staged}
+use Rattle.blocks.specs.Blocks.{contents, BlockMeans}
 use Rattle.blocks.proofs.LayoutFacts.{WriteFits, writes_fit}
 use Rattle.blocks.proofs.RowFacts.{few_rows, row_stands, rows_decided, rows_written, rows_near}
 

@@ -1,16 +1,15 @@
 -- Rows of a block, one after the other.
-use Rattle.std.proofs.Common.{◌≡◌, ℕ, zero, suc, ◌+◌, ◌-◌, ◌*◌, ◌/◌, ◌%◌, ◌<◌, ◌≤◌, min, max, List, [], ◌∷◌, ◌++◌, map, length, get_or, take, drop, replicate, sym, refl, ap, ◌∙◌, subst, inl, inr, append_assoc, append-nil, add-zero, mul-le-mul_right, mul_comm, add-mul, mul-le-mul, one-mul, arith, length-append}
+use Rattle.std.proofs.Common.{◌≡◌, ℕ, suc, ◌+◌, ◌-◌, ◌*◌, ◌/◌, ◌<◌, ◌≤◌, max, List, [], ◌∷◌, ◌++◌, map, length, replicate, sym, refl, ap, ◌∙◌, subst, inl, inr, append_assoc, append-nil, add-zero, mul-le-mul_right, mul_comm, add-mul, mul-le-mul, one-mul, arith}
 use lib.ListN.{length-replicate, replicate-append-replicate}
 use Rattle.std.specs.List.{range_with_len}
-use Rattle.std.proofs.lemmas.Nat.{div_below, mod_below, mul-add-lt}
+use Rattle.std.proofs.lemmas.Nat.{div_below, mod_below}
 use Rattle.std.proofs.lemmas.List.{replicate_more}
 use Rattle.std.proofs.lemmas.List.FromFn.{length-map-range_with_len, map-range_with_len_more}
 use Rattle.memory.specs.Top.{cell_count}
 use Rattle.tables.specs.declared.family.FamilyId.{FamilyId}
 use Rattle.tables.specs.declared.family.FamilyId.TheVariants.{Phase, VehicleDetector, PedestrianDetector, Pattern, Split, Action, Sequence}
-use Rattle.tables.specs.declared.place.Place.{Place}
 use Rattle.tables.specs.declared.work.StagedWrite.{StagedWrite}
-use Rattle.tables.specs.Families.{shape_of, rows_of, cells_of, column_of, cells_end}
+use Rattle.tables.specs.Families.{shape_of, rows_of, cells_of, column_of}
 use Rattle.tables.specs.Places.{Stands, cell_of, rows_before}
 use Rattle.tables.proofs.PlaceFacts.{cell_is, row_of, sizes, last_list}
 use Rattle.values.specs.declared.Fault.{Fault}
@@ -18,8 +17,8 @@ use Rattle.values.specs.Reading.{Reading, Decided, Written, Near, EachMeans, Eac
 use Rattle.values.proofs.Parts.{each_append, each_after, each-length, each_decided, each-written, octets_append, each_near, near_more, total_same}
 use Rattle.headers.specs.declared.Spans.{Spans}
 use Rattle.headers.specs.Headers.{InTable, rows_in, row_at, row_place}
-use Rattle.blocks.specs.Layouts.{Layout, placed, cells_at}
-use Rattle.blocks.specs.Rows.{rows, rows_octets, row_in, rows_shown, writes_from, Staged}
+use Rattle.blocks.specs.Layouts.{Layout, placed}
+use Rattle.blocks.specs.Rows.{rows, rows_octets, writes_from, Staged}
 
 -- the second index of a row is in the table
 pub second_within : (f : FamilyId) (sp : Spans) (k : ℕ) → InTable f sp → k < rows_in sp → k / sp.first.quantity < sp.second.quantity

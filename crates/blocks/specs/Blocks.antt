@@ -1,5 +1,5 @@
 -- A whole block.
-use Rattle.std.specs.Prelude.{◌≡◌, ℕ, ◌+◌, List, ◌++◌, length}
+use Rattle.std.specs.Prelude.{◌≡◌, ℕ, List, ◌++◌, length}
 use Rattle.tables.specs.declared.family.FamilyId.{FamilyId}
 use Rattle.tables.specs.declared.work.StagedWrite.{StagedWrite}
 use Rattle.values.specs.Reading.{Reading, then, whole}

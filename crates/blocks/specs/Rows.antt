@@ -6,7 +6,7 @@ use Rattle.tables.specs.declared.work.StagedWrite.{StagedWrite}
 use Rattle.tables.specs.Places.{cell_of}
 use Rattle.values.specs.Reading.{Reading, each, each_octets}
 use Rattle.headers.specs.declared.Spans.{Spans}
-use Rattle.headers.specs.Headers.{rows_in, row_place}
+use Rattle.headers.specs.Headers.{row_place}
 use Rattle.blocks.specs.Layouts.{Layout, cells_at, placed}
 
 -- so many rows, one after the other

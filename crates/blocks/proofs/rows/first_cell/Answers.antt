@@ -1,4 +1,4 @@
-use Rattle.std.proofs.Common.{◌≡◌, ◌+◌, ◌/◌, ◌%◌, ◌<◌, ◌≤◌, sym, refl, ap, ◌∙◌, subst, arith, rules}
+use Rattle.std.proofs.Common.{◌≡◌, sym, ap, ◌∙◌, subst, arith, rules}
 use Rattle.tables.specs.Places.{Stands, cell_of}
 use Rattle.tables.proofs.PlaceFacts.{sizes}
 use Rattle.headers.specs.Headers.{row_place}

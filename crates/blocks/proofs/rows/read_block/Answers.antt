@@ -1,10 +1,9 @@
-use Rattle.std.proofs.Common.{◌≡◌, ◌+◌, ◌*◌, ◌≤◌, [], length, sym, refl, ap, ◌∙◌, subst, arith}
+use Rattle.std.proofs.Common.{length, subst, arith}
 use Rattle.std.proofs.lemmas.Result.{err_from_is_err_and}
 use Rattle.values.specs.Reading.{at_first}
 use Rattle.lists.specs.Items.{items}
 use Rattle.headers.specs.Headers.{rows_in}
 use Rattle.blocks.specs.Rows.{Staged}
-use Rattle.blocks.proofs.RowFacts.{few_rows}
 use Rattle.blocks.proofs.BlockFacts.{spans_missed, in_table, count-missed, rows-missed, rows-over, block-meant, fits_rows}
 use Rattle.blocks.proofs.rows.read_block.Goals as goal
 

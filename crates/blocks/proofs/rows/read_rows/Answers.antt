@@ -1,7 +1,6 @@
-use Rattle.std.proofs.Common.{◌≡◌, ◌+◌, ◌*◌, ◌<◌, ◌≤◌, ◌++◌, length, sym, ap, ◌∙◌, subst, arith, length-append}
+use Rattle.std.proofs.Common.{◌≡◌, ◌+◌, ◌<◌, ◌++◌, length, ap, ◌∙◌, arith, length-append}
 use Rattle.lists.specs.Items.{items, room}
 use Rattle.tables.specs.Places.{cell_of}
-use Rattle.values.specs.Reading.{EachOf}
 use Rattle.values.proofs.Parts.{each_of_length}
 use Rattle.headers.specs.Headers.{rows_in, row_place}
 use Rattle.blocks.specs.Layouts.{Holds, placed}

@@ -1,7 +1,6 @@
-use Rattle.std.proofs.Common.{◌≡◌, ◌+◌, ◌*◌, ◌<◌, ◌≤◌, [], ◌∷◌, ◌++◌, length, sym, refl, ap, ◌∙◌, subst, append_assoc, arith}
+use Rattle.std.proofs.Common.{◌≡◌, ◌∷◌, ◌++◌, ap, subst, arith}
 use Rattle.tables.specs.declared.place.Place.{Place}
 use Rattle.tables.specs.Families.{shape_of}
-use Rattle.tables.proofs.PlaceFacts.{sizes}
 use Rattle.replies.specs.Replies.{Wrote}
 use Rattle.replies.proofs.ReplyFacts.{wrote_more}
 use Rattle.headers.specs.Headers.{rows_in, spans_octets, count_octets}

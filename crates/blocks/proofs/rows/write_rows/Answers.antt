@@ -1,13 +1,11 @@
-use Rattle.std.proofs.Common.{◌≡◌, ◌+◌, ◌*◌, ◌<◌, ◌≤◌, ◌++◌, length, sym, ap, ◌∙◌, subst, arith}
-use Rattle.tables.specs.Places.{cell_of}
+use Rattle.std.proofs.Common.{◌≡◌, ◌+◌, ◌<◌, ◌++◌, length, sym, ap, ◌∙◌, subst, arith}
 use Rattle.replies.specs.Replies.{Wrote}
 use Rattle.replies.proofs.ReplyFacts.{wrote_more}
-use Rattle.headers.specs.Headers.{rows_in, row_place}
-use Rattle.blocks.specs.Layouts.{Holds, cells_at}
+use Rattle.headers.specs.Headers.{rows_in}
+use Rattle.blocks.specs.Layouts.{cells_at}
 use Rattle.blocks.specs.Rows.{row_in, rows_octets, rows_shown}
 use Rattle.blocks.proofs.LayoutFacts.{cells_held}
 use Rattle.blocks.proofs.RowFacts.{row_stands, room_left, octets_more, one_more_of}
-use Rattle.blocks.proofs.rows.write_rows.Given as given
 use Rattle.blocks.proofs.rows.write_rows.Goals as goal
 
 pub emit-requires : goal.emit-requires
