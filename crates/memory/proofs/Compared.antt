@@ -1,11 +1,8 @@
-use Rattle.std.proofs.Common.{◌≡◌, ℕ, ◌+◌, ◌<◌, ◌≤◌, Bool, true, false, cond, not, eqb, ◌⊎◌, List, [], ◌∷◌, ◌++◌, length, get_or, take, drop, set, Some, None, Decides, Option, sym, refl, ap, ◌∙◌, inl, inr, arith, MatchOption}
-use Rattle.std.proofs.lemmas.List.{take_more, take_more_set, take_all, length-set, drop_more, drop_all}
-use Rattle.std.proofs.lemmas.Option.{MatchOption-at_some}
-use Rattle.std.proofs.lemmas.Bool.{not-true, not-false}
-use Rattle.std.proofs.lemmas.Bool.Decides.{same_from_decides, Decides-eqb}
+use Rattle.std.proofs.Common.{◌≡◌, ℕ, ◌+◌, ◌<◌, ◌≤◌, List, [], ◌∷◌, ◌++◌, length, get_or, take, set, Some, None, sym, ap, ◌∙◌, arith}
+use Rattle.std.proofs.lemmas.List.{take_more, take_more_set, take_all, length-set}
 use Rattle.memory.specs.Top.{top_of}
-use Rattle.memory.specs.Cells.{read_of, written, differing}
-use Rattle.memory.proofs.Facts.{read_some, read_is, read_never, written_yes}
+use Rattle.memory.specs.Cells.{read_of, written}
+use Rattle.memory.proofs.Facts.{read_is, read_never, written_yes}
 
 -- the copy of one more cell: fs are the cells to copy, gs the same as the turn finds them, us those copied to after it
 pub copy_step :

@@ -1,8 +1,8 @@
 -- A request has one outcome: the definitions leave no choice.
-use Rattle.std.proofs.Common.{◌≡◌, ℕ, zero, suc, ◌+◌, ◌-◌, ◌*◌, ◌<◌, ◌≤◌, Bool, true, false, cond, eqb, ltb, ◌⊎◌, List, [], ◌∷◌, ◌++◌, length, get_or, Some, None, sym, refl, ap, ◌∙◌, subst, inl, inr, ⊎_elim, arith}
+use Rattle.std.proofs.Common.{◌≡◌, ℕ, zero, suc, ◌+◌, ◌*◌, ◌<◌, cond, eqb, ltb, ◌⊎◌, List, [], ◌∷◌, length, get_or, Some, None, sym, refl, ap, ◌∙◌, subst, inl, inr, ⊎_elim, arith}
 use Rattle.std.proofs.lemmas.List.{ext_get_or}
 use Rattle.std.proofs.lemmas.Bool.{lt-ltb, le-ltb, cases_eq, cases_lt, cases_order, both_ways}
-use Rattle.tables.specs.Places.{NamesCell, cell_of}
+use Rattle.tables.specs.Places.{cell_of}
 use Rattle.tables.specs.declared.address.Address.{Address}
 use Rattle.tables.specs.declared.place.Place.{Place}
 use Rattle.tables.specs.declared.work.StagedWrite.{StagedWrite}
@@ -10,8 +10,8 @@ use Rattle.tables.specs.Allowed.{Stores, Forbids, stored}
 use Rattle.tables.specs.Families.{column_of}
 use Rattle.tables.proofs.PlaceFacts.{one_cell_named, one_place_named}
 use Rattle.transfers.specs.declared.refusal.Refusal.{Refusal}
-use Rattle.transfers.specs.declared.refusal.Refusal.TheVariants.{ItemCount, Missing, Over, NoNumber, NotAllowed}
-use Rattle.transfers.specs.Items.{Counted, Whole, Miscounted, count_in, address_at, address_place, sent_at}
+use Rattle.transfers.specs.declared.refusal.Refusal.TheVariants.{ItemCount, Missing, Over, NoNumber}
+use Rattle.transfers.specs.Items.{Whole, Miscounted, count_in, address_at, address_place, sent_at}
 use Rattle.transfers.specs.Items.Miscounted.{no_count, out_of_range, missing, over}
 use Rattle.transfers.specs.Gets.{Outcome, accepted, refused, Got, Value, Values, FirstNameless, two_octets}
 use Rattle.transfers.specs.Gets.Got.{miscounted, nameless, values}
@@ -22,7 +22,7 @@ use Rattle.unit.specs.declared.answer.Answer.{Answer}
 use Rattle.unit.specs.declared.operation.Operation.{Operation}
 use Rattle.unit.specs.declared.operation.Operation.TheVariants.{Get, Set, Open, Abandon}
 use Rattle.unit.specs.Operations.{code_of, takes_mode}
-use Rattle.unit.specs.Steps.{Moment, Lent, Same, Counts, Roomy, Gets, Sets, Opens, Abandons, Does, Followed, AllAlone, Answered, Step, Requested, OneOutcome, outcome_number, reply_of, memory_after}
+use Rattle.unit.specs.Steps.{Moment, Lent, Same, Does, Followed, AllAlone, Answered, Step, OneOutcome, outcome_number, reply_of, memory_after}
 use Rattle.unit.specs.Steps.Opens.{over as open-over, opened}
 use Rattle.unit.specs.Steps.Abandons.{over as abandon-over, abandoned}
 use Rattle.unit.specs.Steps.Answered.{empty, unknown, not_taken, done}

@@ -1,12 +1,12 @@
 -- A request's octets taken apart, and its outcome laid into reply memory.
-use Rattle.std.proofs.Common.{◌≡◌, ℕ, ◌+◌, ◌-◌, ◌*◌, ◌<◌, ◌≤◌, Bool, true, false, cond, ◌⊎◌, List, [], ◌∷◌, ◌++◌, length, get_or, take, drop, Ok, Err, Result, sym, refl, ap, ◌∙◌, subst, ⊎_elim, arith, MatchResult}
+use Rattle.std.proofs.Common.{◌≡◌, ℕ, ◌-◌, ◌<◌, ◌≤◌, false, ◌⊎◌, List, [], ◌∷◌, length, get_or, take, drop, Ok, Err, Result, sym, refl, ap, ◌∙◌, subst, ⊎_elim, arith, MatchResult}
 use Rattle.std.proofs.lemmas.List.{take_rest, nil_from_length}
 use Rattle.transfers.specs.declared.refusal.Refusal.{Refusal}
 use Rattle.transfers.specs.declared.refusal.Refusal.TheVariants.{MemoryCount, Room, EmptyRequest, UnknownOperation, Mode, ItemCount, Missing, Over, NoNumber, NotAllowed}
 use Rattle.transfers.specs.Refusals.{number_of, unanswered}
 use Rattle.transfers.specs.Items.{Miscounted, count_in, address_place}
 use Rattle.transfers.specs.Items.Miscounted.{no_count, out_of_range, missing, over}
-use Rattle.transfers.specs.Gets.{Outcome, accepted, refused, Got, two_octets}
+use Rattle.transfers.specs.Gets.{accepted, refused, Got, two_octets}
 use Rattle.transfers.specs.Gets.Got.{miscounted, nameless, values}
 use Rattle.transfers.specs.Sets.{ItemFault, SetTo}
 use Rattle.transfers.specs.Sets.ItemFault.{nameless as item-nameless, not_allowed}
@@ -17,7 +17,6 @@ use Rattle.unit.specs.Operations.{code_of}
 use Rattle.memory.specs.Top.{cell_count}
 use Rattle.unit.specs.States.{SetHere}
 use Rattle.unit.specs.States.SetHere.{wrong_count, no_room, turned_away, done as set-done}
-use Rattle.unit.specs.Steps.{Moment, moment, Same}
 
 pub first_and_rest : (xs : List ℕ) → 1 ≤ length xs → xs ≡ get_or xs 0 0 ∷ take (length xs - 1) (drop 1 xs)
 first_and_rest [] h = absurd (omega arith)

@@ -1,9 +1,8 @@
 -- The unit between calls, its starts, and what one request does.
-use Rattle.std.specs.Prelude.{◌≡◌, ℕ, ◌≤◌, Bool, true, false, cond, List, [], ◌∷◌, length, ◌≢◌}
+use Rattle.std.specs.Prelude.{◌≡◌, ℕ, ◌≤◌, true, false, cond, List, [], ◌∷◌, length, ◌≢◌}
 use Rattle.memory.specs.Top.{cell_count}
 use Rattle.tables.specs.Factory.{factory}
 use Rattle.replies.specs.Replies.{reply_room, padded}
-use Rattle.transfers.specs.declared.refusal.Refusal.{Refusal}
 use Rattle.transfers.specs.declared.refusal.Refusal.TheVariants.{MemoryCount, Room, EmptyRequest, UnknownOperation, Mode, Over}
 use Rattle.transfers.specs.Refusals.{number_of, unanswered, refusal_octets}
 use Rattle.transfers.specs.Gets.{Outcome, accepted, refused, Got}

@@ -1,4 +1,4 @@
-use Rattle.std.proofs.Common.{◌≡◌, ◌-◌, ◌≤◌, ◌∷◌, length, get_or, take, drop, ap, ◌∙◌, arith, rules}
+use Rattle.std.proofs.Common.{◌≡◌, ◌-◌, ◌≤◌, ◌∷◌, length, get_or, take, drop, ap, ◌∙◌, rules}
 use Rattle.readings.proofs.Octets.{two_and_rest, counted}
 use Rattle.readings.proofs.values_in.Goals as goal
 

@@ -1,7 +1,7 @@
-use Rattle.std.proofs.Common.{◌≡◌, ◌/◌, ◌%◌, List, [], ◌∷◌, sym, refl, ap, ◌∙◌, subst, arith}
+use Rattle.std.proofs.Common.{◌≡◌, ◌/◌, ◌%◌, [], ◌∷◌, refl, ap, ◌∙◌, arith}
 use Rattle.replies.specs.Replies.{padded}
 use Rattle.replies.proofs.ReplyFacts.{wrote_more, padded_from}
-use Rattle.transfers.specs.Refusals.{refusal_octets, number_of, layer_of, place_of}
+use Rattle.transfers.specs.Refusals.{refusal_octets, number_of, layer_of}
 use Rattle.unit.proofs.request.refuse.Goals as goal
 
 pub returns : goal.returns

@@ -1,4 +1,4 @@
-use Rattle.std.proofs.Common.{◌≡◌, ◌/◌, ◌%◌, List, [], ◌∷◌, length, sym, refl, ap, ◌∙◌, subst, inl, inr, ⊎_elim, arith, rules}
+use Rattle.std.proofs.Common.{[], length, sym, refl, ap, ◌∙◌, subst, inl, inr, ⊎_elim, arith}
 use Rattle.transfers.specs.Gets.{accepted, refused}
 use Rattle.replies.specs.Replies.{padded}
 use Rattle.replies.proofs.ReplyFacts.{padded_from, padded_same}

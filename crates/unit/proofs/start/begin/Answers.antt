@@ -1,4 +1,4 @@
-use Rattle.std.proofs.Common.{◌≡◌, ◌+◌, ◌<◌, length, take, sym, refl, ap, ◌∙◌, subst, arith}
+use Rattle.std.proofs.Common.{◌+◌, length, take, sym, ap, ◌∙◌, arith}
 use Rattle.memory.specs.Cells.{written}
 use Rattle.unit.proofs.StartFacts.{factory_step, factory_end}
 use Rattle.unit.proofs.start.begin.Goals as goal

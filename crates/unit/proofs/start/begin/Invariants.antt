@@ -1,4 +1,4 @@
-use Rattle.std.proofs.Common.{◌≡◌, ℕ, length, take}
+use Rattle.std.proofs.Common.{◌≡◌, length, take}
 use Rattle.memory.specs.Top.{cell_count}
 use Rattle.tables.specs.Factory.{factory}
 use Rattle.unit.proofs.start.begin.Given as goal

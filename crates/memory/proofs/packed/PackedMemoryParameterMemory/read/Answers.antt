@@ -1,4 +1,4 @@
-use Rattle.std.proofs.Common.{length, sym, refl, arith}
+use Rattle.std.proofs.Common.{sym, refl, arith}
 use Rattle.memory.proofs.Facts.{read_some, read_none}
 use Rattle.memory.proofs.Octets.{length_packed, length_packed_none, bounded_packed, read_wide_at, read_narrow_at, octet_end, width_wide, width_narrow}
 use Rattle.memory.proofs.packed.PackedMemoryParameterMemory.read.Goals as goal

@@ -1,4 +1,4 @@
-use Rattle.std.proofs.Common.{◌≡◌, sym, refl, ◌∙◌, arith}
+use Rattle.std.proofs.Common.{sym, ◌∙◌, arith}
 use Rattle.unit.proofs.RequestFacts.{set_here}
 use Rattle.unit.proofs.states.Editing.set.Goals as goal
 
