@@ -19,6 +19,11 @@ for name in memory lists tables replies transfers unit; do
     done
 done
 
+# Whether a proof was tried after all: the crates below say `logic=` of themselves before the snippet's error, and it says none.
+said_after_error() { # LOG
+    sed -n '/^src\/lib\.rt:.*error\[/,$p' "$1" | grep -q '^logic='
+}
+
 try() { # NAME EXPECTED
     mkdir -p "$work/crates/$1/src"
     cp "$root/misuse/$1.rt.txt" "$work/crates/$1/src/lib.rt"
@@ -30,7 +35,7 @@ try() { # NAME EXPECTED
             echo "$1: proved, as it must be"
             return
         fi
-    elif [ $status -ne 0 ] && grep -q "^src/lib\.rt:.*error\[$2\]" "$work/$1.log"; then
+    elif [ $status -eq 1 ] && grep -q "^src/lib\.rt:.*error\[$2\]" "$work/$1.log" && ! said_after_error "$work/$1.log"; then
         echo "$1: refused, as it must be: $(grep -o '^src/lib\.rt:.*error\[.*' "$work/$1.log" | sed -n -e 's/^.*error\[/error[/' -e 's/: note: .*//' -e 's/: help: .*//' -e 1p)"
         return
     fi
