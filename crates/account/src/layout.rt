@@ -2,7 +2,6 @@
 ghost use Rattle.std.specs.Prelude.{◌≡◌, ◌<◌, true, [], ◌∷◌, ◌++◌, length, IfOk, string_bytes, Decides, OnOk, ◌≢◌};
 ghost use Rattle.account.specs.Pages.{Printed, Plain, bracketed};
 
-use lines::spell;
 use std::alloc::{AllocError, Global};
 use std::fmt;
 
@@ -18,33 +17,23 @@ const FURTHER: &str = "\n    ";
 fn is_printed(byte: u8) -> bool
     ensures { Decides result (Printed byte) }
 {
-    byte >= b' ' && byte <= b'~'
+    matches!(byte, b' '..=b'~')
 }
 
 // A byte as a pair in angle brackets.
-fn push_pair(text: &mut String, heap: Global, byte: u8) -> Result<(), AllocError>
+fn push_pair(text: &mut String, byte: u8) -> Result<(), AllocError>
     ensures { OnOk result (string_bytes text.new ≡ string_bytes text.old ++ bracketed byte) }
 {
-    let pair = spell(heap, &[byte])?;
-    text.push('<')?;
-    text.push_str(pair.as_str())?;
-    text.push('>')?;
-    Ok(())
+    write!(text, "<{byte:02X}>")
 }
 
 // A byte of a line, which stands at `i`: the space that ends a full line of the page leads on to a further one; a space
 // at the line's end and what cannot be printed are shown as pairs, as `<09>` for a tab.
-fn push_byte(
-    text: &mut String,
-    heap: Global,
-    i: usize,
-    byte: u8,
-    last: bool,
-) -> Result<(), AllocError>
+fn push_byte(text: &mut String, i: usize, byte: u8, last: bool) -> Result<(), AllocError>
     ensures { OnOk result ((i < 95 → Printed byte → (last ≡ true → byte ≢ 32) → string_bytes text.new ≡ string_bytes text.old ++ byte ∷ [])) }
 {
     if !is_printed(byte) || (last && byte == b' ') {
-        push_pair(text, heap, byte)
+        push_pair(text, byte)
     } else if i % WIDTH == WIDTH - 1 && byte == b' ' {
         text.push_str(FURTHER)
     } else {
@@ -59,7 +48,7 @@ pub fn laid_out(heap: Global, line: &[u8]) -> Result<String, AllocError>
     let mut text = String::new(heap);
     for (i, byte) in line.iter().enumerate() {
         let last = i + 1 == line.len();
-        push_byte(&mut text, heap, i, *byte, last)?;
+        push_byte(&mut text, i, *byte, last)?;
     }
     Ok(text)
 }

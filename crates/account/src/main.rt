@@ -3,27 +3,15 @@
 
 use bench_unit::BenchUnit;
 use lines::buffer::LineBuffer;
-use lines::{LONGEST_LINE, spell};
-use readings::cause::Cause;
-use readings::{Fault, Reading, read};
+use lines::input::each_line;
+use lines::spell;
+use readings::{Reading, read};
 use std::io;
-use std::io::{BufReader, Read};
+use std::io::BufReader;
 
 mod layout;
 
 use layout::{NumberList, laid_out};
-
-fn tell_fault(rt: &HostRuntime, fault: Fault) -> io::Result<()> {
-    let Fault {
-        number,
-        layer,
-        place,
-    } = fault;
-    match Cause::from_refusal(number, layer) {
-        Some(cause) => println!(rt; "  refused: {number}, layer {layer}, place {place}: {cause}\n"),
-        None => println!(rt; "  refused: {number}, layer {layer}, place {place}\n"),
-    }
-}
 
 // What the reply says, and an empty line.
 fn tell_reply(rt: &HostRuntime, reply: &[u8]) -> io::Result<()> {
@@ -38,7 +26,7 @@ fn tell_reply(rt: &HostRuntime, reply: &[u8]) -> io::Result<()> {
             };
             println!(rt; "  answered: {list}\n")
         }
-        Reading::Refused(fault) => tell_fault(rt, fault),
+        Reading::Refused(fault) => println!(rt; "  refused: {fault}\n"),
         Reading::Unclear => println!(rt; "  no reply of a unit\n"),
     }
 }
@@ -54,11 +42,10 @@ fn tell_typed(rt: &HostRuntime, line: &LineBuffer) -> io::Result<()> {
 // The request, and what came of it.
 fn tell_request(rt: &HostRuntime, unit: &mut BenchUnit, line: &LineBuffer) -> io::Result<()> {
     tell_typed(rt, line)?;
-    let mut octets = [0; LONGEST_LINE];
-    let Some(count) = line.octets(&mut octets) else {
+    let Some(octets) = line.octets() else {
         return println!(rt; "  bad line: not sent to the unit\n");
     };
-    let answer = unit.ask(&octets[0..count]);
+    let answer = unit.ask(&octets);
     tell_reply(rt, unit.reply(answer.length))
 }
 
@@ -71,18 +58,7 @@ fn tell(rt: &HostRuntime, unit: &mut BenchUnit, line: &LineBuffer) -> io::Result
 
 fn main(rt: HostRuntime) -> io::Result<()> {
     let mut unit = BenchUnit::at_factory();
-    let mut line = LineBuffer::new();
-    for byte in BufReader::new(rt.alloc(), rt.stdin())?.bytes() {
-        match byte? {
-            b'\n' => {
-                tell(&rt, &mut unit, &line)?;
-                line.clear();
-            }
-            other => line.push(other),
-        }
-    }
-    if line.is_empty() {
-        return Ok(());
-    }
-    tell(&rt, &mut unit, &line)
+    each_line(BufReader::new(rt.alloc(), rt.stdin())?, |line| {
+        tell(&rt, &mut unit, line)
+    })
 }

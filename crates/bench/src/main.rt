@@ -3,35 +3,24 @@
 
 use bench_unit::BenchUnit;
 use lines::buffer::LineBuffer;
-use lines::{LONGEST_LINE, spell};
+use lines::input::each_line;
+use lines::spell;
 use std::io;
-use std::io::{BufReader, Read};
+use std::io::BufReader;
 
 // Prints the reply to one line; a line that spells no octets is not sent to the unit.
 fn answer(rt: &HostRuntime, unit: &mut BenchUnit, line: &LineBuffer) -> io::Result<()> {
-    let mut octets = [0; LONGEST_LINE];
-    let Some(count) = line.octets(&mut octets) else {
+    let Some(octets) = line.octets() else {
         return println!(rt; "bad line");
     };
-    let answer = unit.ask(&octets[0..count]);
+    let answer = unit.ask(&octets);
     let reply = spell(rt.alloc(), unit.reply(answer.length))?;
     println!(rt; "{reply}")
 }
 
 fn main(rt: HostRuntime) -> io::Result<()> {
     let mut unit = BenchUnit::at_factory();
-    let mut line = LineBuffer::new();
-    for byte in BufReader::new(rt.alloc(), rt.stdin())?.bytes() {
-        match byte? {
-            b'\n' => {
-                answer(&rt, &mut unit, &line)?;
-                line.clear();
-            }
-            other => line.push(other),
-        }
-    }
-    if line.is_empty() {
-        return Ok(());
-    }
-    answer(&rt, &mut unit, &line)
+    each_line(BufReader::new(rt.alloc(), rt.stdin())?, |line| {
+        answer(&rt, &mut unit, line)
+    })
 }

@@ -1,7 +1,6 @@
 -- What follows from memories of the right count and room enough.
-use Rattle.std.proofs.Common.{◌≡◌, ℕ, ◌-◌, ◌≤◌, min, Bool, true, false, cond, List, [], ◌++◌, length, take, drop, replicate, sym, refl, ap, ◌∙◌, inl, inr, arith}
-use Rattle.std.proofs.lemmas.List.{length-append, take_all, take_at}
-use Rattle.std.proofs.lemmas.Bool.{cases_lt}
+use Rattle.std.proofs.Common.{◌≡◌, ℕ, ◌-◌, ◌≤◌, Bool, true, false, cond, List, [], ◌++◌, length, take, drop, replicate, refl, ap, ◌∙◌, arith}
+use Rattle.std.proofs.lemmas.List.{length-append, take_at}
 use Rattle.memory.specs.Top.{cell_count}
 use Rattle.memory.specs.Held.{word_cells}
 use Rattle.memory.proofs.Facts.{length-word_cells}
@@ -65,11 +64,3 @@ pub started :
     → (after ≡ factory) × (a.mode ≡ 0)
 started words after a h (miscounted n _ _ _ _) = absurd (n (length-word_cells words ∙ h))
 started words after a h (begun _ _ _ m e) = (e, m)
-
--- the first octets of reply memory, or all of them
-pub capped : (xs : List ℕ) (n m : ℕ) → length xs ≡ 1024 → m ≡ min n 1024 → take m xs ≡ take n xs
-capped xs n m h e =
-    elim (cases_lt n 1024) [
-      | inl l ↦ ap (λ k. take k xs) (omega arith)
-      | inr l ↦ take_all m xs (omega arith) ∙ sym (take_all n xs (omega arith))
-    ]

@@ -8,20 +8,19 @@ ghost use Rattle.unit.specs.Steps.{moment};
 ghost use Rattle.bench_unit.specs.Asks.{Asked};
 
 use memory::{CELLS, WordMemory};
+use replies::REPLY_OCTETS;
 use tables::work::{Finding, StagedWrite};
 use unit::answer::Answer;
-use unit::request::{FINDINGS, WRITES, request};
+use unit::request::{FINDINGS, NO_FINDING, NO_WRITE, WRITES, request};
 use unit::start::factory_start;
 
-// The octets of reply memory.
-pub const REPLY_ROOM: usize = 1024;
-
-// One word to a cell in both memories, the memory that is lent for a request, and the mode between two requests.
+// One word to a cell in both memories, the memory that is lent for a request, all of it fixed, as a cabinet's is, and the
+// mode between two requests, as the unit's call takes it.
 #[derive(Drop)]
 pub struct BenchUnit {
     running: [u16; CELLS],
     draft: [u16; CELLS],
-    reply: [u8; REPLY_ROOM],
+    reply: [u8; REPLY_OCTETS],
     writes: [StagedWrite; WRITES],
     findings: [Finding; FINDINGS],
     mode: u8,
@@ -33,31 +32,19 @@ impl BenchUnit {
         ensures running { word_cells result.running ≡ factory }
         ensures mode { result.mode ≡ 0 }
     {
-        let mut unit = BenchUnit {
-            running: [0; CELLS],
+        let mut running = [0; CELLS];
+        let mut memory = WordMemory {
+            words: &mut running,
+        };
+        let mode = factory_start(&mut memory).mode;
+        BenchUnit {
+            running,
             draft: [0; CELLS],
-            reply: [0; REPLY_ROOM],
-            writes: [StagedWrite { cell: 0, value: 0 }; WRITES],
-            findings: [Finding {
-                rule: 0,
-                high: 0,
-                low: 0,
-            }; FINDINGS],
-            mode: 0,
-        };
-        unit.start();
-        unit
-    }
-
-    // Begins on the factory table.
-    fn start(&mut self)
-        ensures running { word_cells self.new.running ≡ factory }
-        ensures mode { self.new.mode ≡ 0 }
-    {
-        let mut running = WordMemory {
-            words: &mut self.running,
-        };
-        self.mode = factory_start(&mut running).mode;
+            reply: [0; REPLY_OCTETS],
+            writes: [NO_WRITE; WRITES],
+            findings: [NO_FINDING; FINDINGS],
+            mode,
+        }
     }
 
     // One request, in the mode that the request before left.
@@ -88,7 +75,6 @@ impl BenchUnit {
     pub fn reply(&self, length: usize) -> &[u8]
         ensures { result.now ≡ take length self.now.reply }
     {
-        let reply = &self.reply;
-        &reply[0..length.min(REPLY_ROOM)]
+        &self.reply[..length.min(REPLY_OCTETS)]
     }
 }

@@ -1,19 +1,21 @@
 -- A block, part by part.
 use Rattle.std.proofs.Common.{◌≡◌, ℕ, zero, suc, ◌+◌, ◌*◌, ◌<◌, ◌≤◌, List, [], ◌∷◌, ◌++◌, length, get_or, replicate, sym, refl, subst, mul-le-mul_right, arith}
+use denote.Ref.{Bor}
 use Rattle.tables.specs.declared.family.FamilyId.{FamilyId}
-use Rattle.tables.specs.declared.place.Place.{Place}
 use Rattle.tables.specs.declared.work.StagedWrite.{StagedWrite}
 use Rattle.tables.specs.Families.{shape_of, rows_of}
 use Rattle.tables.specs.Places.{cell_of}
 use Rattle.values.specs.declared.Fault.{Fault}
 use Rattle.values.specs.declared.Fault.TheVariants.{Over}
-use Rattle.values.specs.Reading.{at_first, at_second, in_part, over, Decided, Near, EachOf}
+use Rattle.values.specs.declared.reader.Reader.{Reader}
+use Rattle.values.specs.Reading.{Took, at_first, at_second, in_part, over, Decided, Near, EachOf}
+use Rattle.values.proofs.Readers.{TookOn, took_on, fault_on}
 use Rattle.values.proofs.Parts.{then_decided, then_near, whole_decided, whole_near, near_more}
 use Rattle.headers.specs.declared.Spans.{Spans}
-use Rattle.headers.specs.Headers.{InTable, rows_in, row_at, row_place, spans_in, spans_of, count, count_octets}
+use Rattle.headers.specs.Headers.{InTable, rows_in, row_place, spans_of, count, count_octets}
 use Rattle.headers.proofs.HeaderFacts.{spans_in_table, spans_decided, spans_near, exactly_decided, count_near}
 use Rattle.blocks.specs.Layouts.{Layout, Lawful, Small, placed}
-use Rattle.blocks.specs.Rows.{rows, writes_from, Staged}
+use Rattle.blocks.specs.Rows.{rows, writes_from, Staged, StagedBy}
 use Rattle.blocks.specs.Blocks.{contents, BlockMeans}
 use Rattle.blocks.proofs.LayoutFacts.{WriteFits, writes_fit}
 use Rattle.blocks.proofs.RowFacts.{few_rows, row_stands, rows_decided, rows_written, rows_near}
@@ -22,40 +24,24 @@ use Rattle.blocks.proofs.RowFacts.{few_rows, row_stands, rows_decided, rows_writ
 pub fits_rows : (f : FamilyId) (sp : Spans) (w most : ℕ) → InTable f sp → rows_of f * w ≤ most → rows_in sp * w ≤ most
 fits_rows f sp w most t h = omega (arith, h, mul-le-mul_right {m = rows_in sp} {n = rows_of f} w (few_rows f sp t))
 
-module _ {R : Type 0} (f : FamilyId) (l : Layout R) (s : List ℕ) (last : Place) (is : last ≡ row_at f (shape_of f).last_first (shape_of f).last_second) where
-  pub spans_meant : (sp : Spans) (mid : ℕ) → (spans_in last.first last.second).Means s 2 sp mid → (spans_of f).Means s 2 sp mid
-  spans_meant sp mid h = subst (λ (p : Place). (spans_in p.first p.second).Means s 2 sp mid) is h
+-- what follows the spans of a block
+module _ {R : Type 0} (f : FamilyId) (l : Layout R) {b m : Reader} {sp : Spans} (t : Took (spans_of f) b m sp) {n : ℕ} (rows_are : n ≡ rows_in sp) where
+  pub count-missed : (w : Fault) → (count n).Faults m.octets.now m.at w → (contents f l).Faults b.octets.now b.at w
+  count-missed w e = at_second sp m.at t.means (at_first (fault_on (count (rows_in sp)) b m t.same w (subst (λ k. (count k).Faults m.octets.now m.at w) rows_are e)))
 
-  pub spans_missed : (w : Fault) → (spans_in last.first last.second).Faults s 2 w → (spans_of f).Faults s 2 w
-  spans_missed w h = subst (λ (p : Place). (spans_in p.first p.second).Faults s 2 w) is h
+  module _ {a : Reader} {marks : List (Unit {0})} (k : Took (count n) m a marks) where
+    counted : TookOn (count (rows_in sp)) b m a marks
+    counted = took_on b t.same (subst (λ k. Took (count k) m a marks) rows_are k)
 
-  pub in_table : (sp : Spans) (mid : ℕ) → (spans_in last.first last.second).Means s 2 sp mid → InTable f sp
-  in_table sp mid h = spans_in_table f s 2 sp mid (spans_meant sp mid h)
+    pub rows-missed : (w : Fault) → (rows l.reading (rows_in sp)).Faults a.octets.now a.at w → (contents f l).Faults b.octets.now b.at w
+    rows-missed w e = at_second sp m.at t.means (at_second marks a.at counted.means (in_part (fault_on (rows l.reading (rows_in sp)) b a counted.same w e)))
 
-  module _ (sp : Spans) (mid : ℕ) (h : (spans_in last.first last.second).Means s 2 sp mid) (n : ℕ) (rows_are : n ≡ rows_in sp) where
-    pub count-missed : (w : Fault) → (count n).Faults s mid w → (contents f l).Faults s 2 w
-    count-missed w e = at_second sp mid (spans_meant sp mid h) (at_first (subst (λ m. (count m).Faults s mid w) rows_are e))
+    module _ {z : Reader} {was is : List StagedWrite} (g : StagedBy f l sp (rows_in sp) a z was is) where
+      staged_on : Staged f l sp (rows_in sp) b.octets.now a.at was is z.at
+      staged_on = subst (λ (o : Bor (List ℕ)). Staged f l sp (rows_in sp) o.now a.at was is z.at) counted.same g.staged
 
-    module _ (marks : List (Unit {0})) (from : ℕ) (k : (count n).Means s mid marks from) where
-      counted : (count (rows_in sp)).Means s mid marks from
-      counted = subst (λ m. (count m).Means s mid marks from) rows_are k
-
-      pub rows-missed : (w : Fault) → (rows l.reading (rows_in sp)).Faults s from w → (contents f l).Faults s 2 w
-      rows-missed w e = at_second sp mid (spans_meant sp mid h) (at_second marks from counted (in_part e))
-
-      pub rows-over : (before after : List StagedWrite) (end : ℕ) → Staged f l sp (rows_in sp) s from before after end → end < length s → (contents f l).Faults s 2 (Over end)
-      rows-over before after end g less = at_second sp mid (spans_meant sp mid h) (at_second marks from counted (over g.meant end g.means less refl))
-
-      pub block-meant : (after : List StagedWrite) (end : ℕ) → Staged f l sp (rows_in sp) s from [] after end → end ≤ length s → length s ≤ end → BlockMeans f l s after
-      block-meant after end g within all =
-          let e : end ≡ length s = omega arith in
-          record {
-            spans = sp;
-            sent = g.meant;
-            marks = marks;
-            means = record { mid = mid; one = spans_meant sp mid h; two = record { mid = from; one = counted; two = (subst (λ j. (rows l.reading (rows_in sp)).Means s from g.meant j) e g.means, omega arith) } };
-            writes = g.added;
-          }
+      pub rows-over : z.at < length b.octets.now → (contents f l).Faults b.octets.now b.at (Over z.at)
+      rows-over less = at_second sp m.at t.means (at_second marks a.at counted.means (over staged_on.meant z.at staged_on.means less refl))
 
 module _ {R : Type 0} (f : FamilyId) (l : Layout R) (lawful : Lawful f l) where
   pub contents_decided : Decided (contents f l)

@@ -1,6 +1,5 @@
 -- The cells of a row, one after another.
-use Rattle.std.proofs.Common.{◌≡◌, ℕ, ◌+◌, ◌-◌, ◌<◌, ◌≤◌, min, List, [], ◌∷◌, ◌++◌, map, length, get_or, take, drop, set, replicate, Ok, Err, Result, sym, refl, ap, ◌∙◌, append_assoc, arith, MatchResult}
-use native.Mathlib.Nat.{sub-zero}
+use Rattle.std.proofs.Common.{◌≡◌, ℕ, ◌+◌, ◌-◌, ◌<◌, ◌≤◌, min, List, [], ◌∷◌, ◌++◌, map, length, get_or, take, drop, set, replicate, Ok, Err, Result, Option, Some, None, MatchOption, IsSome, sym, refl, ap, ◌∙◌, append_assoc, arith, MatchResult}
 use Rattle.std.specs.List.{range_with_len}
 use Rattle.std.proofs.lemmas.List.FromFn.{length-map-range_with_len, get_or-map-range_with_len, map-range_with_len_more}
 use Rattle.std.proofs.lemmas.List.{ext_get_or, length-map, length-take-le, get_or-take, take_all, take_more, take_more_set, map_more, map_push, drop-replicate}
@@ -15,6 +14,11 @@ pub taken : {X T E : Type 0} (r : Result T E) (before after : List X) (x : X) (r
     → length before < room → after ≡ before ++ x ∷ []
 taken (Ok _) before after x room h e l = h
 taken (Err _) before after x room h e l = absurd (omega arith)
+
+-- there is a value where there cannot be none
+pub is_there : {A : Type 0} (o : Option A) (P : Type 0) (Q : A → Type 0) → MatchOption o P Q → (P → ⊥) → IsSome o
+is_there (Some x) P Q h not = refl
+is_there None P Q h not = absurd (not h)
 
 abbrev write : ℕ → ℕ → StagedWrite
 write cell v = record { cell = cell; value = v }
@@ -64,18 +68,6 @@ module _ (base column : ℕ) (vs : List ℕ) (i : ℕ) (before : List StagedWrit
       staged_next base (octet_slots column i) (take i vs) (slot column (1 + i)) (get_or vs i 0) _ before mid after n (omega arith) h t
       ∙ sym (λ j. before ++ placed base (map-range_with_len_more (slot column) 1 i (1 + i) refl j) (take_more vs i 0 l j))
 
-  pub list_staged : (len : ℕ) (first after : List StagedWrite) → 16 ≤ i → i ≤ 16 → length vs ≡ 16
-      → first ≡ before ++ write (base + (column - 1)) len ∷ []
-      → after ≡ first ++ placed base (octet_slots column i) (take i vs)
-      → after ≡ before ++ placed base (list_slots column) (len ∷ vs)
-  list_staged len first after l m e f h =
-      let n : i ≡ 16 = omega arith in
-      let c : base + (column - 1) ≡ base + offset (slot column 0) = omega arith in
-      h
-      ∙ (λ j. f j ++ placed base (octet_slots column (n j)) (take_all i vs (omega arith) j))
-      ∙ append_assoc before (write (base + (column - 1)) len ∷ []) _
-      ∙ ap (λ t. before ++ write t len ∷ placed base (octet_slots column 16) vs) c
-
 module _ (cells : List ℕ) (base : ℕ) (columns out : List ℕ) (i : ℕ) where
   pub number_loaded : (v : ℕ) → i < length columns → i < length out → take i out ≡ cells_at cells base (number_slots (take i columns))
       → v ≡ get_or cells (base + (get_or columns i 0 - 1)) 0 → take (i + 1) (set out i v) ≡ cells_at cells base (number_slots (take (i + 1) columns))
@@ -94,7 +86,7 @@ module _ (cells : List ℕ) (base : ℕ) (columns out : List ℕ) (i : ℕ) wher
 pub list_loaded : (cells : List ℕ) (base column len : ℕ) (out : List ℕ)
     → len ≡ min 16 (get_or cells (base + (column - 1)) 0) → length out ≡ len
     → ((i : ℕ) → i < length out → get_or out i 0 ≡ get_or cells (base + (column - 1) + 1 + i) 0)
-    → ◌≡◌ {A = PhaseList} (record { len = len; phases = out ++ drop (len - 0) (replicate 16 0) }) (list_in (cells_at cells base (list_slots column)))
+    → ◌≡◌ {A = PhaseList} (record { len = len; phases = out ++ drop len (replicate 16 0) }) (list_in (cells_at cells base (list_slots column)))
 list_loaded cells base column len out e n h =
     let value : ℕ → ℕ = λ k. get_or cells (base + offset (slot column k)) 0 in
     let first : base + (column - 1) ≡ base + offset (slot column 0) = omega arith in
@@ -107,6 +99,6 @@ list_loaded cells base column len out e n h =
     let at : base + (column - 1) + 1 + i ≡ base + offset (slot column (1 + i)) = omega arith in
     let within : i < len = omega arith in
     h i l ∙ ap (λ k. get_or cells k 0) at ∙ sym (get_or-take len (map value (range_with_len 1 16)) i 0 within ∙ get_or-map-range_with_len value 1 16 i (1 + i) 0 (omega arith) refl)) in
-    let back : drop (len - 0) (replicate {A = ℕ} 16 0) ≡ replicate (16 - len) 0 = ap (λ n. drop n (replicate {A = ℕ} 16 0)) (sub-zero len) ∙ drop-replicate len 16 0 in
+    let back : drop len (replicate {A = ℕ} 16 0) ≡ replicate (16 - len) 0 = drop-replicate len 16 0 in
     let row : ℕ → PhaseList = λ m. record { len = m; phases = take m (map value (range_with_len 1 16)) ++ replicate (16 - m) 0 } in
     (λ j. record { len = len; phases = front j ++ back j }) ∙ ap row len_is

@@ -69,6 +69,12 @@ numbers-held f (n ∷ ns) (x ∷ xs) t h =
     let u = both (has_slot f (slot n 0)) (has_slots f (number_slots ns)) t in
     (allowed_fits f (slot n 0) u.0 x h.0, numbers-held f ns xs u.1 h.1)
 
+-- numbers that stand in the family's rows are numbers of its columns
+pub numbers_stand : (f : FamilyId) (ns : List ℕ) → T (has_slots f (number_slots ns)) → (i : ℕ) → i < length ns → (1 ≤ get_or ns i 0) × (get_or ns i 0 ≤ (shape_of f).columns)
+numbers_stand f [] t i l = absurd (omega arith)
+numbers_stand f (n ∷ ns) t zero l = let h = both (has_slot f (slot n 0)) (has_slots f (number_slots ns)) t in (least f (slot n 0) h.0, last f (slot n 0) h.0)
+numbers_stand f (n ∷ ns) t (suc i) l = numbers_stand f ns (both (has_slot f (slot n 0)) (has_slots f (number_slots ns)) t).1 i (omega arith)
+
 pub numbers_lawful : (f : FamilyId) (ns : List ℕ) → T (has_slots f (number_slots ns)) → Lawful f (numbers_layout f ns)
 numbers_lawful f ns t = record {
   decided = numbers_decided (columns_of f ns);

@@ -7,18 +7,19 @@ use Rattle.std.proofs.lemmas.List.{replicate_more}
 use Rattle.std.proofs.lemmas.List.FromFn.{length-map-range_with_len, map-range_with_len_more}
 use Rattle.memory.specs.Top.{cell_count}
 use Rattle.tables.specs.declared.family.FamilyId.{FamilyId}
-use Rattle.tables.specs.declared.family.FamilyId.TheVariants.{Phase, VehicleDetector, PedestrianDetector, Pattern, Split, Action, Sequence}
 use Rattle.tables.specs.declared.work.StagedWrite.{StagedWrite}
 use Rattle.tables.specs.Families.{shape_of, rows_of, cells_of, column_of}
 use Rattle.tables.specs.Places.{Stands, cell_of, rows_before}
 use Rattle.tables.proofs.PlaceFacts.{cell_is, row_of, sizes, last_list}
 use Rattle.values.specs.declared.Fault.{Fault}
-use Rattle.values.specs.Reading.{Reading, Decided, Written, Near, EachMeans, EachFaults, EachOf, each_octets}
+use Rattle.values.specs.declared.reader.Reader.{Reader}
+use Rattle.values.specs.Reading.{Reading, Took, Decided, Written, Near, EachMeans, EachFaults, EachOf, each_octets}
+use Rattle.values.proofs.Readers.{took_on, fault_on}
 use Rattle.values.proofs.Parts.{each_append, each_after, each-length, each_decided, each-written, octets_append, each_near, near_more, total_same}
 use Rattle.headers.specs.declared.Spans.{Spans}
 use Rattle.headers.specs.Headers.{InTable, rows_in, row_at, row_place}
 use Rattle.blocks.specs.Layouts.{Layout, placed}
-use Rattle.blocks.specs.Rows.{rows, rows_octets, writes_from, Staged}
+use Rattle.blocks.specs.Rows.{rows, rows_octets, writes_from, Staged, StagedBy}
 
 -- the second index of a row is in the table
 pub second_within : (f : FamilyId) (sp : Spans) (k : ℕ) → InTable f sp → k < rows_in sp → k / sp.first.quantity < sp.second.quantity
@@ -74,10 +75,7 @@ module _ {R : Type 0} (f : FamilyId) (l : Layout R) (sp : Spans) where
       ap (λ ws. writes_at k q ++ ws) (writes_more (k + 1) rs r ∙ ap (λ n. writes_from f l sp (k + 1) rs ++ writes_at n r) e)
       ∙ sym (append_assoc (writes_at k q) (writes_from f l sp (k + 1) rs) (writes_at (k + length (q ∷ rs)) r))
 
-  pub none_yet : (s : List ℕ) (from : ℕ) (before : List StagedWrite) → Staged f l sp 0 s from before before from
-  none_yet s from before = record { meant = []; means = refl; added = sym (append-nil before) }
-
-  pub one_more : (k : ℕ) (s : List ℕ) (from : ℕ) (before mid after : List StagedWrite) (row : R) (pos end : ℕ) → Staged f l sp k s from before mid pos → l.reading.Means s pos row end
+  one_more : (k : ℕ) (s : List ℕ) (from : ℕ) (before mid after : List StagedWrite) (row : R) (pos end : ℕ) → Staged f l sp k s from before mid pos → l.reading.Means s pos row end
       → after ≡ mid ++ writes_at k row → Staged f l sp (k + 1) s from before after end
   one_more k s from before mid after row pos end h m e =
       let rd = l.reading in
@@ -90,10 +88,19 @@ module _ {R : Type 0} (f : FamilyId) (l : Layout R) (sp : Spans) where
             ∙ ap (λ ws. before ++ ws) (sym (writes_more 0 h.meant row));
       }
 
-  pub faulty : (k q : ℕ) (s : List ℕ) (from : ℕ) (before mid : List StagedWrite) (pos : ℕ) (w : Fault) → k < q → Staged f l sp k s from before mid pos → l.reading.Faults s pos w → (rows l.reading q).Faults s from w
+  faulty : (k q : ℕ) (s : List ℕ) (from : ℕ) (before mid : List StagedWrite) (pos : ℕ) (w : Fault) → k < q → Staged f l sp k s from before mid pos → l.reading.Faults s pos w → (rows l.reading q).Faults s from w
   faulty k q s from before mid pos w less h e =
       let all : replicate {A = ℕ} k 0 ++ replicate (suc (q - k - 1)) 0 ≡ replicate q 0 = replicate-append-replicate k (suc (q - k - 1)) 0 ∙ ap (λ n. replicate n 0) (omega arith) in
       subst (λ us. EachFaults (λ (u : ℕ). l.reading) us s from w) all (each_after (λ (u : ℕ). l.reading) (replicate k 0) (replicate (suc (q - k - 1)) 0) s from h.meant pos w h.means (inl e))
+
+  -- the same by a reader
+  pub one_read : (k : ℕ) {b a z : Reader} {was mid is : List StagedWrite} {row : R} → StagedBy f l sp k b a was mid → Took l.reading a z row → is ≡ mid ++ writes_at k row → StagedBy f l sp (k + 1) b z was is
+  one_read k {b = b} {a = a} {z = z} {was = was} {mid = mid} {is = is} {row = row} h t e =
+      let u = took_on b h.same t in
+      record { same = u.same; staged = one_more k b.octets.now b.at was mid is row a.at z.at h.staged u.means e }
+
+  pub one_wrong : (k q : ℕ) {b a : Reader} {was mid : List StagedWrite} → k < q → StagedBy f l sp k b a was mid → (w : Fault) → l.reading.Faults a.octets.now a.at w → (rows l.reading q).Faults b.octets.now b.at w
+  one_wrong k q {b = b} {a = a} {was = was} {mid = mid} less h w e = faulty k q b.octets.now b.at was mid a.at w less h.staged (fault_on l.reading b a h.same w e)
 
 -- rows shown and written, one more
 module _ {R : Type 0} (octets : R → List ℕ) (row : ℕ → R) where
@@ -116,13 +123,3 @@ rows_written w q = each-written (λ u. w) (replicate q 0)
 
 pub rows_near : {R : Type 0} {rd : Reading R} {m : ℕ} → Near rd m → (q : ℕ) → Near (rows rd q) (q * m)
 rows_near {m = m} h q = near_more (omega (arith, total_same m q)) (each_near {most = λ (u : ℕ). m} (λ u. h) (replicate q 0))
-
--- no family has more than 256 rows
-pub few_in_all : (f : FamilyId) → rows_of f ≤ 256
-few_in_all Phase = omega arith
-few_in_all VehicleDetector = omega arith
-few_in_all PedestrianDetector = omega arith
-few_in_all Pattern = omega arith
-few_in_all Split = omega arith
-few_in_all Action = omega arith
-few_in_all Sequence = omega arith

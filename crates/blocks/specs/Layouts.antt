@@ -68,6 +68,14 @@ pub record Lawful {R : Type 0} (f : FamilyId) (l : Layout R) : Type 0 where
   pub back : (r : R) → l.allowed r → l.row_of (l.values r) ≡ r
   pub loaded : (vs : List ℕ) → EachOf (Holds f) l.carried vs → l.fits (l.row_of vs)
 
+-- A family's constants are the table's, and its kind of index tells all its rows: the data ID, the last row's indices, and the last second index
+-- that such an index can tell.
+pub record Constants (f : FamilyId) (data_id first second seconds : ℕ) : Type 0 where
+  pub id : data_id ≡ (shape_of f).id
+  pub last_first : first ≡ (shape_of f).last_first
+  pub last_second : second ≡ (shape_of f).last_second
+  pub indexed : (shape_of f).last_second ≤ seconds
+
 -- All rows of a family fit one reply, behind a header, and one list of staged writes.
 pub record Small {R : Type 0} (f : FamilyId) (l : Layout R) : Type 0 where
   pub reply : rows_of f * l.most ≤ 1014

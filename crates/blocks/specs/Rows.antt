@@ -4,6 +4,7 @@ use Rattle.std.specs.List.{range_with_len}
 use Rattle.tables.specs.declared.family.FamilyId.{FamilyId}
 use Rattle.tables.specs.declared.work.StagedWrite.{StagedWrite}
 use Rattle.tables.specs.Places.{cell_of}
+use Rattle.values.specs.declared.reader.Reader.{Reader}
 use Rattle.values.specs.Reading.{Reading, each, each_octets}
 use Rattle.headers.specs.declared.Spans.{Spans}
 use Rattle.headers.specs.Headers.{row_place}
@@ -34,3 +35,8 @@ pub record Staged {R : Type 0} (f : FamilyId) (l : Layout R) (sp : Spans) (q : �
   pub meant : List R
   pub means : (rows l.reading q).Means s from meant end
   pub added : after ≡ before ++ writes_from f l sp 0 meant
+
+-- the same by a reader, over the octets that it reads
+pub record StagedBy {R : Type 0} (f : FamilyId) (l : Layout R) (sp : Spans) (q : ℕ) (before after : Reader) (was is : List StagedWrite) : Type 0 where
+  pub same : after.octets ≡ before.octets
+  pub staged : Staged f l sp q before.octets.now before.at was is after.at

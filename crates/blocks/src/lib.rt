@@ -3,4 +3,5 @@
 
 pub mod cells;
 pub mod family;
+pub mod index;
 pub mod rows;

@@ -1,6 +1,6 @@
 // The unit as a cabinet's firmware calls it from C: a factory start and a request, each on memories of words and on
 // packed ones. Memory of any length and any mode is answered. The firmware owns all memory but the work lists, which a
-// request keeps on the stack. A library exports nothing to C: `cabinet_c` does, by a call of each entry here.
+// request keeps on the stack. Each entry stands for words and for packed octets, since C names a function for each.
 #![tactic(auto)]
 
 ghost use Rattle.std.specs.Prelude.{◌≡◌, length};
@@ -9,20 +9,10 @@ ghost use Rattle.unit.specs.Steps.{FactoryStarted, Requested, moment, lent};
 
 use memory::WordMemory;
 use memory::packed::PackedMemory;
-use tables::work::{Finding, StagedWrite};
 use unit::answer::Answer;
 use unit::request;
-use unit::request::{FINDINGS, WRITES};
+use unit::request::{FINDINGS, NO_FINDING, NO_WRITE, WRITES};
 use unit::start::factory_start;
-
-// What fills the work lists before a request.
-const NO_WRITE: StagedWrite = StagedWrite { cell: 0, value: 0 };
-
-const NO_FINDING: Finding = Finding {
-    rule: 0,
-    high: 0,
-    low: 0,
-};
 
 // The factory start on words, one to a cell; their high octets over narrow cells are kept.
 #[unsafe(no_mangle)]

@@ -1,98 +1,39 @@
+ghost use Rattle.std.proofs.Common.{refl, lit<, lit≤};
 ghost use Rattle.tables.specs.declared.family.FamilyId.TheVariants.{Pattern};
-ghost use Rattle.headers.specs.Headers.{row_at};
-ghost use Rattle.families.specs.Families.{pattern_layout};
-ghost use Rattle.families.specs.FamilyFacts.{layout_lawful, layout_small};
+ghost use Rattle.families.specs.Families.{numbers_in};
 
-use super::columns_of;
-use blocks::cells::{load_numbers, stage_numbers};
-use blocks::family::Family;
-use lists::list::BoundedList;
-use memory::ParameterMemory;
-use replies::Position;
+use super::numbers::{NumberColumns, NumberFamily, NumberRow};
 use tables::family::FamilyId;
-use tables::place::Place;
-use tables::work::StagedWrite;
-use values::numbers::{put_values, read_numbers};
-use values::{Fault, Taken};
 
 // Cycle, offset and sequence number; a block does not carry the split number.
-#[derive(Clone, Copy)]
-pub struct PatternRow {
-    pub numbers: [u16; 3],
-}
+pub type PatternRow = NumberRow<3>;
 
-// The columns that a block carries, counted from 1.
-const NUMBERS: [u8; 3] = [1, 2, 4];
+pub type Patterns = NumberFamily<PatternColumns, 3>;
 
-pub struct Patterns;
+pub struct PatternColumns;
 
-impl Family for Patterns {
+impl NumberColumns<3> for PatternColumns {
     type Index = u8;
 
-    type Row = PatternRow;
+    const FAMILY: FamilyId = FamilyId::Pattern;
 
     const ID: u8 = 3;
 
     const LAST: u8 = 32;
 
-    ghost family = { Pattern };
+    const NUMBERS: [u8; 3] = [1, 2, 4];
 
-    ghost layout = { pattern_layout };
+    ghost FAMILY = { Pattern };
 
-    ghost starts = { λ i. row_at Pattern i 0 };
+    ghost ID = { 3 };
 
-    ghost lawful = { layout_lawful Pattern };
+    ghost LAST = { 32 };
 
-    ghost small = { layout_small Pattern };
+    ghost NUMBERS = { numbers_in Pattern };
 
-    fn data_id() -> u8 {
-        Self::ID
-    }
+    ghost constants = { record { id = refl; last_first = refl; last_second = refl; indexed = lit≤ tt } };
 
-    fn last_row() -> Place {
-        Self::place(Self::LAST)
-    }
+    ghost columns = { record { few = lit< tt; size = refl; stand = tt } };
 
-    fn index(first: u8, _second: u8) -> u8 {
-        first
-    }
-
-    fn place(index: u8) -> Place {
-        Place {
-            family: FamilyId::Pattern,
-            first: index,
-            second: 0,
-            column: 1,
-            octet: 0,
-        }
-    }
-
-    fn parse(block: &[u8], from: usize) -> Result<Taken<PatternRow>, Fault> {
-        let all = columns_of(FamilyId::Pattern);
-        let columns = [all[0], all[1], all[3]];
-        let mut numbers = [0u16; 3];
-        match read_numbers(&columns, block, from, &mut numbers) {
-            Ok(end) => Ok(Taken {
-                row: PatternRow { numbers },
-                end,
-            }),
-            Err(fault) => Err(fault),
-        }
-    }
-
-    fn stage(base: usize, row: &PatternRow, list: &mut BoundedList<StagedWrite>) {
-        stage_numbers(base, &NUMBERS, &row.numbers, list)
-    }
-
-    fn load<M: ParameterMemory>(memory: &mut M, base: usize) -> PatternRow {
-        let mut numbers = [0u16; 3];
-        load_numbers(memory, base, &NUMBERS, &mut numbers);
-        PatternRow { numbers }
-    }
-
-    fn emit(row: &PatternRow, reply: &mut [u8], position: &mut Position) {
-        let all = columns_of(FamilyId::Pattern);
-        let columns = [all[0], all[1], all[3]];
-        put_values(&columns, &row.numbers, reply, position)
-    }
+    ghost small = { record { reply = lit≤ tt; writes = lit≤ tt } };
 }

@@ -1,25 +1,25 @@
+ghost use Rattle.std.proofs.Common.{refl, lit≤};
 ghost use Rattle.tables.specs.declared.family.FamilyId.TheVariants.{Phase};
-ghost use Rattle.headers.specs.Headers.{row_at};
 ghost use Rattle.families.specs.Families.{phase_layout};
 ghost use Rattle.families.specs.FamilyFacts.{layout_lawful, layout_small};
 
 use super::columns_of;
-use blocks::cells::{load_list, load_numbers, stage_list, stage_numbers};
+use blocks::cells::{load_list, load_row, stage_list, stage_numbers};
 use blocks::family::Family;
 use lists::list::BoundedList;
 use memory::ParameterMemory;
-use replies::Position;
+use replies::Reply;
 use tables::family::FamilyId;
-use tables::place::Place;
 use tables::work::StagedWrite;
-use values::numbers::{put_values, read_numbers};
-use values::phases::{PhaseList, put_list, read_list};
-use values::{Fault, Taken};
+use values::Fault;
+use values::numbers::put_values;
+use values::phases::{PhaseList, put_list};
+use values::reader::Reader;
 
 // Walk, pedestrian clear, minimum green, passage, maximum 1, maximum 2, yellow change, red clear, red revert, added
 // initial, maximum initial, time before reduction, cars before reduction, time to reduce, reduce by, minimum gap,
 // dynamic maximum limit, dynamic maximum step, startup, options and ring; then the list of concurrent phases.
-#[derive(Clone, Copy)]
+#[derive(Clone, Copy, Debug, PartialEq, Eq)]
 pub struct PhaseRow {
     pub numbers: [u16; 21],
     pub list: PhaseList,
@@ -39,58 +39,30 @@ impl Family for Phases {
 
     type Row = PhaseRow;
 
+    const FAMILY: FamilyId = FamilyId::Phase;
+
     const ID: u8 = 0;
 
     const LAST: u8 = 16;
 
-    ghost family = { Phase };
+    ghost FAMILY = { Phase };
+
+    ghost ID = { 0 };
+
+    ghost LAST = { 16 };
 
     ghost layout = { phase_layout };
 
-    ghost starts = { λ i. row_at Phase i 0 };
+    ghost constants = { record { id = refl; last_first = refl; last_second = refl; indexed = lit≤ tt } };
 
     ghost lawful = { layout_lawful Phase };
 
     ghost small = { layout_small Phase };
 
-    fn data_id() -> u8 {
-        Self::ID
-    }
-
-    fn last_row() -> Place {
-        Self::place(Self::LAST)
-    }
-
-    fn index(first: u8, _second: u8) -> u8 {
-        first
-    }
-
-    fn place(index: u8) -> Place {
-        Place {
-            family: FamilyId::Phase,
-            first: index,
-            second: 0,
-            column: 1,
-            octet: 0,
-        }
-    }
-
-    fn parse(block: &[u8], from: usize) -> Result<Taken<PhaseRow>, Fault> {
-        let columns = columns_of(FamilyId::Phase);
-        let mut numbers = [0u16; 21];
-        match read_numbers(&columns[0..21], block, from, &mut numbers) {
-            Ok(mid) => match read_list(columns[21], block, mid) {
-                Ok(taken) => Ok(Taken {
-                    row: PhaseRow {
-                        numbers,
-                        list: taken.row,
-                    },
-                    end: taken.end,
-                }),
-                Err(fault) => Err(fault),
-            },
-            Err(fault) => Err(fault),
-        }
+    fn parse(reader: &mut Reader) -> Result<PhaseRow, Fault> {
+        let numbers = reader.numbers(&columns_of(FamilyId::Phase, &NUMBERS))?;
+        let list = reader.list(FamilyId::Phase.column(LIST).unwrap())?;
+        Ok(PhaseRow { numbers, list })
     }
 
     fn stage(base: usize, row: &PhaseRow, list: &mut BoundedList<StagedWrite>) {
@@ -99,15 +71,13 @@ impl Family for Phases {
     }
 
     fn load<M: ParameterMemory>(memory: &mut M, base: usize) -> PhaseRow {
-        let mut numbers = [0u16; 21];
-        load_numbers(memory, base, &NUMBERS, &mut numbers);
+        let numbers = load_row(memory, base, &NUMBERS);
         let list = load_list(memory, base, LIST);
         PhaseRow { numbers, list }
     }
 
-    fn emit(row: &PhaseRow, reply: &mut [u8], position: &mut Position) {
-        let columns = columns_of(FamilyId::Phase);
-        put_values(&columns[0..21], &row.numbers, reply, position);
-        put_list(columns[21], &row.list, reply, position)
+    fn emit(row: &PhaseRow, reply: &mut Reply) {
+        put_values(&columns_of(FamilyId::Phase, &NUMBERS), &row.numbers, reply);
+        put_list(FamilyId::Phase.column(LIST).unwrap(), &row.list, reply)
     }
 }

@@ -1,22 +1,22 @@
+ghost use Rattle.std.proofs.Common.{refl, lit≤};
 ghost use Rattle.tables.specs.declared.family.FamilyId.TheVariants.{Sequence};
-ghost use Rattle.headers.specs.Headers.{row_at};
 ghost use Rattle.families.specs.Families.{sequence_layout};
 ghost use Rattle.families.specs.FamilyFacts.{layout_lawful, layout_small};
 
-use super::{Pair, columns_of};
 use blocks::cells::{load_list, stage_list};
 use blocks::family::Family;
 use lists::list::BoundedList;
 use memory::ParameterMemory;
-use replies::Position;
+use replies::Reply;
 use tables::family::FamilyId;
-use tables::place::Place;
+use tables::place::Indices;
 use tables::work::StagedWrite;
-use values::phases::{PhaseList, put_list, read_list};
-use values::{Fault, Taken};
+use values::Fault;
+use values::phases::{PhaseList, put_list};
+use values::reader::Reader;
 
 // The ring's phases in order.
-#[derive(Clone, Copy)]
+#[derive(Clone, Copy, Debug, PartialEq, Eq)]
 pub struct SequenceRow {
     pub list: PhaseList,
 }
@@ -27,59 +27,36 @@ const LIST: u8 = 1;
 pub struct Sequences;
 
 impl Family for Sequences {
-    type Index = Pair;
+    type Index = Indices;
 
     type Row = SequenceRow;
 
+    const FAMILY: FamilyId = FamilyId::Sequence;
+
     const ID: u8 = 7;
 
-    const LAST: Pair = Pair {
+    const LAST: Indices = Indices {
         first: 4,
         second: 4,
     };
 
-    ghost family = { Sequence };
+    ghost FAMILY = { Sequence };
+
+    ghost ID = { 7 };
+
+    ghost LAST = { record { first = 4; second = 4 } };
 
     ghost layout = { sequence_layout };
 
-    ghost starts = { λ i. row_at Sequence i.first i.second };
+    ghost constants = { record { id = refl; last_first = refl; last_second = refl; indexed = lit≤ tt } };
 
     ghost lawful = { layout_lawful Sequence };
 
     ghost small = { layout_small Sequence };
 
-    fn data_id() -> u8 {
-        Self::ID
-    }
-
-    fn last_row() -> Place {
-        Self::place(Self::LAST)
-    }
-
-    fn index(first: u8, second: u8) -> Pair {
-        Pair { first, second }
-    }
-
-    fn place(index: Pair) -> Place {
-        let Pair { first, second } = index;
-        Place {
-            family: FamilyId::Sequence,
-            first,
-            second,
-            column: 1,
-            octet: 0,
-        }
-    }
-
-    fn parse(block: &[u8], from: usize) -> Result<Taken<SequenceRow>, Fault> {
-        let columns = columns_of(FamilyId::Sequence);
-        match read_list(columns[0], block, from) {
-            Ok(taken) => Ok(Taken {
-                row: SequenceRow { list: taken.row },
-                end: taken.end,
-            }),
-            Err(fault) => Err(fault),
-        }
+    fn parse(reader: &mut Reader) -> Result<SequenceRow, Fault> {
+        let list = reader.list(FamilyId::Sequence.column(LIST).unwrap())?;
+        Ok(SequenceRow { list })
     }
 
     fn stage(base: usize, row: &SequenceRow, list: &mut BoundedList<StagedWrite>) {
@@ -92,8 +69,7 @@ impl Family for Sequences {
         }
     }
 
-    fn emit(row: &SequenceRow, reply: &mut [u8], position: &mut Position) {
-        let columns = columns_of(FamilyId::Sequence);
-        put_list(columns[0], &row.list, reply, position)
+    fn emit(row: &SequenceRow, reply: &mut Reply) {
+        put_list(FamilyId::Sequence.column(LIST).unwrap(), &row.list, reply)
     }
 }

@@ -1,97 +1,40 @@
+ghost use Rattle.std.proofs.Common.{refl, lit<, lit≤};
 ghost use Rattle.tables.specs.declared.family.FamilyId.TheVariants.{VehicleDetector};
-ghost use Rattle.headers.specs.Headers.{row_at};
-ghost use Rattle.families.specs.Families.{vehicle_detector_layout};
-ghost use Rattle.families.specs.FamilyFacts.{layout_lawful, layout_small};
+ghost use Rattle.families.specs.Families.{numbers_in};
 
-use super::columns_of;
-use blocks::cells::{load_numbers, stage_numbers};
-use blocks::family::Family;
-use lists::list::BoundedList;
-use memory::ParameterMemory;
-use replies::Position;
+use super::numbers::{NumberColumns, NumberFamily, NumberRow};
 use tables::family::FamilyId;
-use tables::place::Place;
-use tables::work::StagedWrite;
-use values::numbers::{put_values, read_numbers};
-use values::{Fault, Taken};
 
 // Options, call phase, switch phase, delay, extend, queue limit, no activity, maximum presence, erratic counts and
 // fail time.
-#[derive(Clone, Copy)]
-pub struct VehicleDetectorRow {
-    pub numbers: [u16; 10],
-}
+pub type VehicleDetectorRow = NumberRow<10>;
 
-// The columns, counted from 1.
-const NUMBERS: [u8; 10] = [1, 2, 3, 4, 5, 6, 7, 8, 9, 10];
+pub type VehicleDetectors = NumberFamily<VehicleDetectorColumns, 10>;
 
-pub struct VehicleDetectors;
+pub struct VehicleDetectorColumns;
 
-impl Family for VehicleDetectors {
+impl NumberColumns<10> for VehicleDetectorColumns {
     type Index = u8;
 
-    type Row = VehicleDetectorRow;
+    const FAMILY: FamilyId = FamilyId::VehicleDetector;
 
     const ID: u8 = 1;
 
     const LAST: u8 = 64;
 
-    ghost family = { VehicleDetector };
+    const NUMBERS: [u8; 10] = [1, 2, 3, 4, 5, 6, 7, 8, 9, 10];
 
-    ghost layout = { vehicle_detector_layout };
+    ghost FAMILY = { VehicleDetector };
 
-    ghost starts = { λ i. row_at VehicleDetector i 0 };
+    ghost ID = { 1 };
 
-    ghost lawful = { layout_lawful VehicleDetector };
+    ghost LAST = { 64 };
 
-    ghost small = { layout_small VehicleDetector };
+    ghost NUMBERS = { numbers_in VehicleDetector };
 
-    fn data_id() -> u8 {
-        Self::ID
-    }
+    ghost constants = { record { id = refl; last_first = refl; last_second = refl; indexed = lit≤ tt } };
 
-    fn last_row() -> Place {
-        Self::place(Self::LAST)
-    }
+    ghost columns = { record { few = lit< tt; size = refl; stand = tt } };
 
-    fn index(first: u8, _second: u8) -> u8 {
-        first
-    }
-
-    fn place(index: u8) -> Place {
-        Place {
-            family: FamilyId::VehicleDetector,
-            first: index,
-            second: 0,
-            column: 1,
-            octet: 0,
-        }
-    }
-
-    fn parse(block: &[u8], from: usize) -> Result<Taken<VehicleDetectorRow>, Fault> {
-        let columns = columns_of(FamilyId::VehicleDetector);
-        let mut numbers = [0u16; 10];
-        match read_numbers(columns, block, from, &mut numbers) {
-            Ok(end) => Ok(Taken {
-                row: VehicleDetectorRow { numbers },
-                end,
-            }),
-            Err(fault) => Err(fault),
-        }
-    }
-
-    fn stage(base: usize, row: &VehicleDetectorRow, list: &mut BoundedList<StagedWrite>) {
-        stage_numbers(base, &NUMBERS, &row.numbers, list)
-    }
-
-    fn load<M: ParameterMemory>(memory: &mut M, base: usize) -> VehicleDetectorRow {
-        let mut numbers = [0u16; 10];
-        load_numbers(memory, base, &NUMBERS, &mut numbers);
-        VehicleDetectorRow { numbers }
-    }
-
-    fn emit(row: &VehicleDetectorRow, reply: &mut [u8], position: &mut Position) {
-        let columns = columns_of(FamilyId::VehicleDetector);
-        put_values(columns, &row.numbers, reply, position)
-    }
+    ghost small = { record { reply = lit≤ tt; writes = lit≤ tt } };
 }

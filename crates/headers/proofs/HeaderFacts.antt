@@ -1,14 +1,15 @@
 -- Headers, octet by octet.
-use Rattle.std.proofs.Common.{◌≡◌, ℕ, zero, suc, ◌+◌, ◌-◌, ◌/◌, ◌%◌, ◌<◌, ◌≤◌, min, Bool, true, false, cond, ltb, ◌⊎◌, List, [], ◌∷◌, ◌++◌, map, length, get_or, take, drop, sym, refl, ap, ◌∙◌, subst, inl, inr, ⊎_elim, add-zero, arith, length-append, take_all}
-use Rattle.std.proofs.lemmas.List.{take_rest, get_or-drop, length-drop, take_more, drop_more, take-append-drop, get_or_at}
+use Rattle.std.proofs.Common.{◌≡◌, ℕ, zero, suc, ◌+◌, ◌-◌, ◌/◌, ◌%◌, ◌<◌, ◌≤◌, min, Bool, true, false, cond, ltb, ◌⊎◌, List, [], ◌∷◌, ◌++◌, map, length, get_or, take, drop, sym, refl, ap, ◌∙◌, subst, inl, inr, ⊎_elim, add-zero, arith, length-append}
+use Rattle.std.proofs.lemmas.List.{take_rest, get_or-drop, length-drop, get_or_at}
 use Rattle.std.proofs.lemmas.Bool.{cases_eq, cases_lt}
 use Rattle.tables.specs.declared.family.FamilyId.{FamilyId}
 use Rattle.tables.specs.declared.family.FamilyId.TheVariants.{Phase, VehicleDetector, PedestrianDetector, Pattern, Split, Action, Sequence}
 use Rattle.tables.specs.Families.{shape_of}
 use Rattle.values.specs.declared.Fault.{Fault}
 use Rattle.values.specs.declared.Fault.TheVariants.{NotInTable, CountDiffers}
-use Rattle.values.specs.Reading.{item, ItemFaults, at_first, at_second, Decided, Written, Near, EachOf, each_octets, total}
-use Rattle.values.proofs.Parts.{item_decided, item_near, then_decided, then-written, then_near, seen_decided, seen-written, seen_near, held_decided, held-written, held_near, each_decided, each-written, each_near, each_append, each_after, near_more}
+use Rattle.values.specs.declared.reader.Reader.{Reader}
+use Rattle.values.specs.Reading.{Reading, Took, item, at_first, at_second, Decided, Written, Near, EachOf, each_octets, total}
+use Rattle.values.proofs.Parts.{item_decided, item_near, then_decided, then-written, then_near, seen_decided, seen-written, seen_near, held_decided, held-written, held_near, each_decided, each-written, each_near, near_more}
 use Rattle.headers.specs.declared.Span.{Span}
 use Rattle.headers.specs.declared.Spans.{Spans}
 use Rattle.headers.specs.Headers.{Identifies, family_named, UpTo, span_in, spans_in, spans_of, no_second, exactly, count_octets, count, InTable, spans_octets}
@@ -17,18 +18,19 @@ use Rattle.headers.specs.Headers.{Identifies, family_named, UpTo, span_in, spans
 pub part_at : (s : List ℕ) (from i : ℕ) → get_or (take (length s - from) (drop from s)) i 0 ≡ get_or s (from + i) 0
 part_at s from i = ap (λ l. get_or l i 0) (take_rest s from) ∙ get_or-drop from s i 0
 
-pub part_first : (s : List ℕ) (from : ℕ) → get_or (take (length s - from) (drop from s)) 0 0 ≡ get_or s from 0
-part_first s from = part_at s from 0 ∙ ap (λ n. get_or s n 0) (add-zero from)
-
 pub part_length : (s : List ℕ) (from : ℕ) → length (take (length s - from) (drop from s)) ≡ length s - from
 part_length s from = ap length (take_rest s from) ∙ length-drop from s
 
--- the octet behind it
-pub next_at : (s : List ℕ) (from : ℕ) → let l = take (length s - from) (drop from s) in get_or (take (length l - 1) (drop 1 l)) 0 0 ≡ get_or s (from + 1) 0
-next_at s from = let l = take (length s - from) (drop from s) in part_at l 1 0 ∙ part_at s from 1
+-- the octets that a reader has left: the first, the next, and how many
+module _ (s l : List ℕ) (at : ℕ) (e : l ≡ drop at s) where
+  pub left_first : get_or l 0 0 ≡ get_or s at 0
+  left_first = ap (λ t. get_or t 0 0) e ∙ get_or-drop at s 0 0 ∙ ap (λ n. get_or s n 0) (add-zero at)
 
-pub next_length : (s : List ℕ) (from : ℕ) → let l = take (length s - from) (drop from s) in length (take (length l - 1) (drop 1 l)) ≡ length s - from - 1
-next_length s from = let l = take (length s - from) (drop from s) in part_length l 1 ∙ ap (λ n. n - 1) (part_length s from)
+  pub left_next : get_or (take (length l - 1) (drop 1 l)) 0 0 ≡ get_or s (at + 1) 0
+  left_next = part_at l 1 0 ∙ ap (λ t. get_or t 1 0) e ∙ get_or-drop at s 1 0
+
+  pub left_length : length l ≡ length s - at
+  left_length = ap length e ∙ length-drop at s
 
 -- the families have IDs of their own, and whether one has an ID can be told
 with_id : (x : ℕ) (f : FamilyId) → ((shape_of f).id ≡ x) ⊎ ((shape_of f).id ≡ x → ⊥)
@@ -168,14 +170,6 @@ module _ (last : ℕ) (s : List ℕ) (i : ℕ) where
   first_faulty zero w f = f
   first_faulty (suc n) w f = at_first f
 
-  pub one_span : (n : ℕ) (a : Span) (j : ℕ) → n ≡ 0 → (span_in last).Means s i a j → (spans_in last n).Means s i (record { first = a; second = no_second }) j
-  one_span zero a j e h = (h, refl)
-  one_span (suc n) a j e h = absurd (omega arith)
-
-  pub two_spans : (n : ℕ) (a b : Span) (mid j : ℕ) → (n ≡ 0 → ⊥) → (span_in last).Means s i a mid → (span_in n).Means s mid b j → (spans_in last n).Means s i (record { first = a; second = b }) j
-  two_spans zero a b mid j e h k = absurd (e refl)
-  two_spans (suc n) a b mid j e h k = record { mid = mid; one = h; two = k }
-
   pub second_faulty : (n : ℕ) (a : Span) (mid : ℕ) (w : Fault) → (n ≡ 0 → ⊥) → (span_in last).Means s i a mid → (span_in n).Faults s mid w → (spans_in last n).Faults s i w
   second_faulty zero a mid w e h f = absurd (e refl)
   second_faulty (suc n) a mid w e h f = at_second a mid h f
@@ -184,28 +178,12 @@ pub octets_of_two : (n : ℕ) (sp : Spans) → (n ≡ 0 → ⊥) → spans_octet
 octets_of_two zero sp e = absurd (e refl)
 octets_of_two (suc n) sp e = refl
 
-pub octets_of_one : (n : ℕ) (sp : Spans) → n ≡ 0 → spans_octets n sp ≡ sp.first.start ∷ sp.first.quantity ∷ []
-octets_of_one zero sp e = refl
-octets_of_one (suc n) sp e = absurd (omega arith)
+-- what a reader must find to read just these octets
+abbrev pub marked : ℕ → Reading (Unit {0})
+marked o = item (λ u x. x ≡ o) CountDiffers
 
--- just these octets, one more
-module _ (os s : List ℕ) (from i : ℕ) where
-  pub one_octet : (marks : List (Unit {0})) (pos : ℕ) → i < length os → pos < length s → get_or s pos 0 ≡ get_or os i 0
-      → (exactly (take i os)).Means s from marks pos → (exactly (take (i + 1) os)).Means s from (marks ++ tt ∷ []) (pos + 1)
-  one_octet marks pos l h e k =
-      subst (λ xs. (exactly xs).Means s from (marks ++ tt ∷ []) (pos + 1)) (sym (take_more os i 0 l))
-      (each_append (λ o. item (λ (u : Unit {0}) x. x ≡ o) CountDiffers) (take i os) (get_or os i 0 ∷ []) s from marks (tt ∷ []) pos (pos + 1) k (pos + 1, record { there = h; is = e; takes = refl }, refl))
-
-  pub octet_faulty : (marks : List (Unit {0})) (pos : ℕ) (w : Fault) → i < length os
-      → ItemFaults (λ (u : Unit {0}) x. x ≡ get_or os i 0) CountDiffers s pos w
-      → (exactly (take i os)).Means s from marks pos → (exactly os).Faults s from w
-  octet_faulty marks pos w l f k =
-      let all : take i os ++ get_or os i 0 ∷ drop (i + 1) os ≡ os = ap (λ t. take i os ++ t) (sym (drop_more os i 0 l)) ∙ take-append-drop i os in
-      subst (λ xs. (exactly xs).Faults s from w) all
-      (each_after (λ o. item (λ (u : Unit {0}) x. x ≡ o) CountDiffers) (take i os) (get_or os i 0 ∷ drop (i + 1) os) s from marks pos w k (inl f))
-
-  pub octets_done : (marks : List (Unit {0})) (pos : ℕ) → length os ≤ i → (exactly (take i os)).Means s from marks pos → (exactly os).Means s from marks pos
-  octets_done marks pos l k = subst (λ xs. (exactly xs).Means s from marks pos) (take_all i os l) k
+pub mark_taken : (o : ℕ) {a z : Reader} → a.at < length a.octets.now → get_or a.octets.now a.at 0 ≡ o → z.octets ≡ a.octets → z.at ≡ a.at + 1 → Took (marked o) a z tt
+mark_taken o l e same at = record { same = same; means = record { there = l; is = e; takes = at } }
 
 pub spans_short : (n : ℕ) (sp : Spans) → length (spans_octets n sp) ≤ 4
 spans_short zero sp = omega arith

@@ -1,33 +1,34 @@
 // The header of a block: which family it is of, which rows, and how many these are.
 #![tactic(auto)]
 
-ghost use Rattle.std.specs.Prelude.{◌≡◌, ℕ, ◌+◌, ◌*◌, ◌<◌, ◌≤◌, List, [], ◌∷◌, ◌++◌, length, MatchResult};
-ghost use Rattle.replies.specs.Replies.{Wrote};
-ghost use Rattle.values.specs.Reading.{Parsed};
+ghost use Rattle.std.specs.Prelude.{◌≡◌, ◌+◌, ◌<◌, ◌≤◌, List, [], ◌∷◌, length, MatchResult};
+ghost use Rattle.replies.specs.Replies.{Grew};
+ghost use Rattle.values.specs.Reading.{Took, Read};
 ghost use Rattle.headers.specs.Headers.{family_named, span_in, spans_in, rows_in, exactly, count, count_octets, spans_octets};
 
-use replies::{Position, put};
+use replies::Reply;
 use tables::family::FamilyId;
-use values::{Fault, Taken};
+use values::Fault;
+use values::reader::Reader;
 
 // The data type of a standard block.
 pub const STANDARD: u8 = 0;
 
 // An index, and how many rows there are from it on.
-#[derive(Clone, Copy)]
+#[derive(Clone, Copy, Debug, PartialEq, Eq)]
 pub struct Span {
     pub start: u8,
     pub quantity: u8,
 }
 
-// What a family with one index has for the second.
+// What a family with one index has for the second, so that its rows are counted like any others.
 const NO_SECOND: Span = Span {
     start: 0,
     quantity: 1,
 };
 
 // The rows of a block, by the first index and by the second.
-#[derive(Clone, Copy)]
+#[derive(Clone, Copy, Debug, PartialEq, Eq)]
 pub struct Spans {
     pub first: Span,
     pub second: Span,
@@ -38,7 +39,7 @@ impl Spans {
     pub fn rows(self) -> usize
         ensures { result ≡ rows_in self }
     {
-        self.first.quantity as usize * self.second.quantity as usize
+        usize::from(self.first.quantity) * usize::from(self.second.quantity)
     }
 }
 
@@ -55,21 +56,19 @@ pub fn family_named(block: &[u8]) -> Result<FamilyId, Fault>
     let [id, ..] = rest else {
         return Err(Fault::Missing);
     };
-    match FamilyId::from_id(*id) {
-        Some(family) => Ok(family),
-        None => Err(Fault::NotInTable(1)),
-    }
+    FamilyId::try_from(*id).map_err(|_| Fault::NotInTable(1))
 }
 
 // An index from 1 to the last, and a quantity that does not run past the last.
-pub fn read_span(last: u8, block: &[u8], from: usize) -> Result<Taken<Span>, Fault>
-    requires { from ≤ length block.now }
-    ensures { Parsed (span_in last) block.now from result }
+pub fn read_span(last: u8, reader: &mut Reader) -> Result<Span, Fault>
+    ensures { Read (span_in last) reader.old reader.new result }
 {
-    let [start, rest @ ..] = &block[from..] else {
+    let from = reader.at;
+    let [start, rest @ ..] = reader.rest() else {
         return Err(Fault::Missing);
     };
     let start = *start;
+    // By comparisons: `contains` of a range was tried here, and the proof did not close.
     if start < 1 || last < start {
         return Err(Fault::NotInTable(from));
     }
@@ -80,110 +79,85 @@ pub fn read_span(last: u8, block: &[u8], from: usize) -> Result<Taken<Span>, Fau
     if quantity < 1 || last - start < quantity - 1 {
         return Err(Fault::NotInTable(from + 1));
     }
-    Ok(Taken {
-        row: Span { start, quantity },
-        end: from + 2,
-    })
+    reader.at = from + 2;
+    Ok(Span { start, quantity })
 }
 
-// The spans of a block; a family with one index has 0 for the last of the second.
-pub fn read_spans(
-    last_first: u8,
-    last_second: u8,
-    block: &[u8],
-    from: usize,
-) -> Result<Taken<Spans>, Fault>
-    requires { from ≤ length block.now }
-    ensures { Parsed (spans_in last_first last_second) block.now from result }
+// The spans of a block; a family with one index has 0 for the last of the second, as its shape has.
+pub fn read_spans(last_first: u8, last_second: u8, reader: &mut Reader) -> Result<Spans, Fault>
+    ensures { Read (spans_in last_first last_second) reader.old reader.new result }
 {
-    let first = match read_span(last_first, block, from) {
-        Ok(first) => first,
-        Err(fault) => return Err(fault),
-    };
+    let first = read_span(last_first, reader)?;
     if last_second == 0 {
-        return Ok(Taken {
-            row: Spans {
-                first: first.row,
-                second: NO_SECOND,
-            },
-            end: first.end,
+        return Ok(Spans {
+            first,
+            second: NO_SECOND,
         });
     }
-    match read_span(last_second, block, first.end) {
-        Ok(second) => Ok(Taken {
-            row: Spans {
-                first: first.row,
-                second: second.row,
-            },
-            end: second.end,
-        }),
-        Err(fault) => Err(fault),
-    }
+    let second = read_span(last_second, reader)?;
+    Ok(Spans { first, second })
 }
 
-// Just these octets, as a count's; the offset after them.
-fn read_exactly(octets: &[u8], block: &[u8], from: usize) -> Result<usize, Fault>
-    requires { from ≤ length block.now }
-    ensures { MatchResult result (λ end. (end ≤ length block.now) × ((marks : List (Unit {0})) × (exactly octets.now).Means block.now from marks end)) (λ w. (exactly octets.now).Faults block.now from w) }
+// Just these octets, as a count's.
+fn read_exactly(octets: &[u8], reader: &mut Reader) -> Result<(), Fault>
+    ensures { MatchResult result (λ _. (marks : List (Unit {0})) × Took (exactly octets.now) reader.old reader.new marks) (λ w. (exactly octets.now).Faults reader.old.octets.now reader.old.at w) }
 {
-    let mut pos = from;
-    for i in 0..octets.len() {
-        if pos >= block.len() {
+    for octet in octets {
+        let [sent, ..] = reader.rest() else {
             return Err(Fault::Missing);
+        };
+        if *sent != *octet {
+            return Err(Fault::CountDiffers(reader.at));
         }
-        if block[pos] != octets[i] {
-            return Err(Fault::CountDiffers(pos));
-        }
-        pos += 1;
+        reader.at += 1;
     }
-    Ok(pos)
+    Ok(())
 }
 
-// The count of so many rows; the offset after it.
-pub fn read_count(rows: usize, block: &[u8], from: usize) -> Result<usize, Fault>
-    requires from { from ≤ length block.now }
-    requires rows { rows < 65536 }
-    ensures { MatchResult result (λ end. (end ≤ length block.now) × ((marks : List (Unit {0})) × (count rows).Means block.now from marks end)) (λ w. (count rows).Faults block.now from w) }
+// The count of so many rows.
+pub fn read_count(rows: usize, reader: &mut Reader) -> Result<(), Fault>
+    requires { rows < 65536 }
+    ensures { MatchResult result (λ _. (marks : List (Unit {0})) × Took (count rows) reader.old reader.new marks) (λ w. (count rows).Faults reader.old.octets.now reader.old.at w) }
 {
-    if rows < 256 {
-        read_exactly(&[1, rows as u8], block, from)
+    if let Ok(few) = u8::try_from(rows) {
+        read_exactly(&[1, few], reader)
     } else {
-        read_exactly(&[2, (rows / 256) as u8, (rows % 256) as u8], block, from)
+        let [high, low] = (rows as u16).to_be_bytes();
+        read_exactly(&[2, high, low], reader)
     }
 }
 
 // Writes the count of so many rows.
-pub fn put_count(rows: usize, reply: &mut [u8], position: &mut Position)
+pub fn put_count(rows: usize, reply: &mut Reply)
     requires rows { rows < 65536 }
-    requires room { position.old.length + 3 ≤ length reply.old }
-    ensures { Wrote reply.old position.old.length reply.new position.new.length (count_octets rows) }
+    requires room { reply.old.position.now.length + 3 ≤ length reply.old.octets.now }
+    ensures { Grew reply.old reply.new (count_octets rows) }
 {
-    if rows < 256 {
-        put(reply, position, 1);
-        put(reply, position, rows as u8);
+    if let Ok(few) = u8::try_from(rows) {
+        reply.put(1);
+        reply.put(few);
     } else {
-        put(reply, position, 2);
-        put(reply, position, (rows / 256) as u8);
-        put(reply, position, (rows % 256) as u8);
+        reply.put(2);
+        reply.put_number(rows as u16);
     }
 }
 
 // Writes one span.
-fn put_span(span: Span, reply: &mut [u8], position: &mut Position)
-    requires { position.old.length + 2 ≤ length reply.old }
-    ensures { Wrote reply.old position.old.length reply.new position.new.length (span.start ∷ span.quantity ∷ []) }
+fn put_span(span: Span, reply: &mut Reply)
+    requires { reply.old.position.now.length + 2 ≤ length reply.old.octets.now }
+    ensures { Grew reply.old reply.new (span.start ∷ span.quantity ∷ []) }
 {
-    put(reply, position, span.start);
-    put(reply, position, span.quantity);
+    reply.put(span.start);
+    reply.put(span.quantity);
 }
 
 // Writes the spans of a block.
-pub fn put_spans(last_second: u8, spans: Spans, reply: &mut [u8], position: &mut Position)
-    requires { position.old.length + 4 ≤ length reply.old }
-    ensures { Wrote reply.old position.old.length reply.new position.new.length (spans_octets last_second spans) }
+pub fn put_spans(last_second: u8, spans: Spans, reply: &mut Reply)
+    requires { reply.old.position.now.length + 4 ≤ length reply.old.octets.now }
+    ensures { Grew reply.old reply.new (spans_octets last_second spans) }
 {
-    put_span(spans.first, reply, position);
+    put_span(spans.first, reply);
     if last_second != 0 {
-        put_span(spans.second, reply, position);
+        put_span(spans.second, reply);
     }
 }

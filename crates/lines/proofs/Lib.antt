@@ -1,3 +1,4 @@
+mod Ahead
 mod Held
-mod Reading
+mod Pairs
 mod Spells

@@ -31,5 +31,5 @@ abbrev pub line_room : ℕ
 line_room = 3072
 
 -- the front of a line in a buffer, all of it unless the line is too long to be legible
-abbrev pub Holds : List ℕ → ℕ → List ℕ → Type 0
-Holds bytes len line = take len bytes ≡ take line_room line
+abbrev pub Holds : List ℕ → List ℕ → Type 0
+Holds front line = front ≡ take line_room line

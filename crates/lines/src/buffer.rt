@@ -1,7 +1,10 @@
-ghost use Rattle.std.specs.Prelude.{◌≡◌, ℕ, ◌≤◌, List, [], ◌∷◌, ◌++◌, length, take, drop, IfSome, MatchOption, ◌==◌};
+ghost use Rattle.std.specs.Prelude.{◌≡◌, ℕ, ◌≤◌, List, [], ◌∷◌, ◌++◌, length, take, IfSome, MatchOption, ◌==◌};
+ghost use Rattle.arrayvec.specs.ArrayVec.{array_vec_len};
 ghost use Rattle.lines.specs.Spelling.{spelled, longest_line, line_room, Legible, Holds};
 
 use crate::{LONGEST_LINE, octets_of_line};
+use arrayvec::ArrayVec;
+use std::marker::Model;
 
 // One byte more than the longest good line has.
 const LINE_ROOM: usize = 3 * LONGEST_LINE;
@@ -10,57 +13,58 @@ const LINE_ROOM: usize = 3 * LONGEST_LINE;
 // too long as well.
 #[derive(Drop)]
 pub struct LineBuffer {
-    bytes: [u8; LINE_ROOM],
-    len: usize,
-    ghost within: { len ≤ 3072 },
+    front: ArrayVec<u8, LINE_ROOM>,
+}
+
+impl Model for LineBuffer {
+    ghost use Rattle.std.specs.Prelude.{ℕ, List};
+
+    ghost Value = { List ℕ };
+
+    ghost view = { λ b. b.front.items };
 }
 
 impl LineBuffer {
     pub fn new() -> LineBuffer
-        ensures { Holds result.bytes result.len [] }
+        ensures { Holds result [] }
     {
         LineBuffer {
-            bytes: [0; LINE_ROOM],
-            len: 0,
+            front: ArrayVec::new(),
         }
     }
 
     pub fn clear(&mut self)
-        ensures { Holds self.new.bytes self.new.len [] }
+        ensures { Holds self.new [] }
     {
-        self.len = 0;
+        self.front.clear();
     }
 
     pub fn push(&mut self, byte: u8)
-        ensures { (line : List ℕ) → Holds self.old.bytes self.old.len line → Holds self.new.bytes self.new.len (line ++ byte ∷ []) }
+        ensures { (line : List ℕ) → Holds self.old line → Holds self.new (line ++ byte ∷ []) }
     {
-        if self.len < LINE_ROOM {
-            self.bytes[self.len] = byte;
-            self.len += 1;
+        if !self.front.is_full() {
+            self.front.push(byte);
         }
     }
 
     pub fn is_empty(&self) -> bool
-        ensures { (line : List ℕ) → Holds self.now.bytes self.now.len line → result ≡ ((length line) == 0) }
+        ensures { (line : List ℕ) → Holds self.now line → result ≡ ((length line) == 0) }
     {
-        self.len == 0
+        self.front.is_empty()
     }
 
     // The line's bytes, but of a line that is too long only the front.
     pub fn text(&self) -> &[u8]
-        ensures { (line : List ℕ) → Holds self.now.bytes self.now.len line → result.now ≡ take line_room line }
+        ensures { (line : List ℕ) → Holds self.now line → result.now ≡ take line_room line }
     {
-        let bytes = &self.bytes;
-        &bytes[0..self.len]
+        &self.front
     }
 
     // What `octets_of_line` says of the whole line.
-    pub fn octets(&self, octets: &mut [u8; LONGEST_LINE]) -> Option<usize>
-        ensures cases { (line : List ℕ) → Holds self.now.bytes self.now.len line → MatchOption result (Legible line → ⊥) (λ n. line ≡ spelled (take n octets.new)) }
-        ensures bound { IfSome result (λ n. n ≤ longest_line) }
-        ensures same { MatchOption result (octets.new ≡ octets.old) (λ n. drop n octets.new ≡ drop n octets.old) }
+    pub fn octets(&self) -> Option<ArrayVec<u8, LONGEST_LINE>>
+        ensures cases { (line : List ℕ) → Holds self.now line → MatchOption result (Legible line → ⊥) (λ octets. line ≡ spelled octets.items) }
+        ensures bound { IfSome result (λ octets. array_vec_len octets ≤ longest_line) }
     {
-        let bytes = &self.bytes;
-        octets_of_line(&bytes[0..self.len], octets)
+        octets_of_line(&self.front)
     }
 }

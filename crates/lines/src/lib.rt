@@ -1,16 +1,19 @@
 #![tactic(auto)]
 
-ghost use Rattle.std.specs.Prelude.{◌≡◌, ℕ, ◌/◌, ◌%◌, ◌<◌, ◌≤◌, [], ◌∷◌, ◌++◌, length, take, drop, IfSome, IfOk, string_bytes, MatchOption, OnOk, ◌≢◌};
+ghost use Rattle.std.specs.Prelude.{◌≡◌, ℕ, ◌/◌, ◌%◌, ◌<◌, ◌≤◌, IfSome, IfOk, string_bytes, MatchOption, ◌≢◌};
+ghost use Rattle.arrayvec.specs.ArrayVec.{array_vec_len};
 ghost use Rattle.lines.specs.Spelling.{digit_of, spelled, longest_line, Legible};
 
+use arrayvec::ArrayVec;
 use std::alloc::{AllocError, Global};
 
 pub mod buffer;
+pub mod input;
 
 // The most octets that a line may spell.
 pub const LONGEST_LINE: usize = 1024;
 
-// What a capital hexadecimal digit stands for.
+// What a capital hexadecimal digit stands for; no plainer by `char::to_digit`, which takes small letters too.
 fn digit_value(digit: u8) -> Option<u8>
     ensures { MatchOption result ((d : ℕ) → d < 16 → digit ≢ digit_of d) (λ d. (d < 16) × (digit ≡ digit_of d)) }
 {
@@ -28,61 +31,22 @@ fn pair_value(high: u8, low: u8) -> Option<u8>
     Some(digit_value(high)? * 16 + digit_value(low)?)
 }
 
-// Reads a line that is not empty. Where it is refused, the octets before the fault are written.
-fn read_pairs(line: &[u8], octets: &mut [u8; LONGEST_LINE]) -> Option<usize>
-    requires { 0 < length line.now }
-    ensures { MatchOption result (Legible line.now → ⊥) (λ n. (n ≤ longest_line) × (line.now ≡ spelled (take n octets.new))) }
+// The octets that a line spells.
+pub fn octets_of_line(line: &[u8]) -> Option<ArrayVec<u8, LONGEST_LINE>>
+    ensures cases { MatchOption result (Legible line.now → ⊥) (λ octets. line.now ≡ spelled octets.items) }
+    ensures bound { IfSome result (λ octets. array_vec_len octets ≤ longest_line) }
 {
-    let mut rest = line;
-    for n in 0..LONGEST_LINE {
-        let [high, low, after @ ..] = rest else {
+    let mut octets = ArrayVec::new();
+    if line.is_empty() {
+        return Some(octets);
+    }
+    for pair in line.split(|byte| *byte == b' ') {
+        let [high, low] = pair else {
             return None;
         };
-        octets[n] = pair_value(*high, *low)?;
-        match after {
-            [] => return Some(n + 1),
-            [b' ', more @ ..] => rest = more,
-            _ => return None,
-        }
+        octets.try_push(pair_value(*high, *low)?).ok()?;
     }
-    None
-}
-
-// The digit of a number below sixteen.
-fn digit_of(value: u8) -> char
-    requires { value < 16 }
-    ensures { result ≡ digit_of value }
-{
-    if value < 10 {
-        char::from(b'0' + value)
-    } else {
-        char::from(b'A' + (value - 10))
-    }
-}
-
-// The octets that a line spells, put at the front of `octets`, and their number.
-// A bad line leaves `octets` as it was.
-pub fn octets_of_line(line: &[u8], octets: &mut [u8; LONGEST_LINE]) -> Option<usize>
-    ensures cases { MatchOption result (Legible line.now → ⊥) (λ n. line.now ≡ spelled (take n octets.new)) }
-    ensures bound { IfSome result (λ n. n ≤ longest_line) }
-    ensures same { MatchOption result (octets.new ≡ octets.old) (λ n. drop n octets.new ≡ drop n octets.old) }
-{
-    if line.is_empty() {
-        return Some(0);
-    }
-    let mut read = [0; LONGEST_LINE];
-    let n = read_pairs(line, &mut read)?;
-    octets[0..n].copy_from_slice(&read[0..n]);
-    Some(n)
-}
-
-// Adds the two digits of an octet.
-fn push_pair(text: &mut String, octet: u8) -> Result<(), AllocError>
-    ensures { OnOk result (string_bytes text.new ≡ string_bytes text.old ++ (digit_of (octet / 16) ∷ digit_of (octet % 16) ∷ [])) }
-{
-    text.push(digit_of(octet / 16))?;
-    text.push(digit_of(octet % 16))?;
-    Ok(())
+    Some(octets)
 }
 
 // Octets as capital hexadecimal pairs parted by one space.
@@ -94,7 +58,7 @@ pub fn spell(heap: Global, octets: &[u8]) -> Result<String, AllocError>
         if i > 0 {
             text.push(' ')?;
         }
-        push_pair(&mut text, *octet)?;
+        write!(text, "{octet:02X}")?;
     }
     Ok(text)
 }

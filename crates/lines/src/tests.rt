@@ -1,24 +1,25 @@
 use super::buffer::LineBuffer;
+use super::input::each_line;
 use super::{LONGEST_LINE, octets_of_line, spell};
+use arrayvec::ArrayVec;
 use std::test::Fail;
 
+fn octets(line: &[u8]) -> Result<ArrayVec<u8, LONGEST_LINE>, Fail> {
+    octets_of_line(line).ok_or_else(|| Fail::new("a bad line"))
+}
+
 fn count(line: &[u8]) -> Option<usize> {
-    let mut octets = [0; LONGEST_LINE];
-    octets_of_line(line, &mut octets)
+    octets_of_line(line).map(|octets| octets.len())
 }
 
 #[test]
-fn reads_pairs(rt: HostRuntime) {
-    let mut octets = [9; LONGEST_LINE];
-    assert_eq!(rt; octets_of_line(b"", &mut octets), Some(0));
-    assert_eq!(rt; octets[0], 9);
-    assert_eq!(rt; octets_of_line(b"5A", &mut octets), Some(1));
-    assert_eq!(rt; octets[0], 0x5A);
-    assert_eq!(rt; octets_of_line(b"01 F0 FF", &mut octets), Some(3));
-    assert_eq!(rt;
-        [octets[0], octets[1], octets[2], octets[3]],
-        [0x01, 0xF0, 0xFF, 9]
-    );
+fn reads_pairs(rt: HostRuntime) -> Result<(), Fail> {
+    assert_eq!(rt; count(b""), Some(0));
+    let one = octets(b"5A")?;
+    assert_eq!(rt; one.as_slice(), [0x5A].as_slice());
+    let three = octets(b"01 F0 FF")?;
+    assert_eq!(rt; three.as_slice(), [0x01, 0xF0, 0xFF].as_slice());
+    Ok(())
 }
 
 #[test]
@@ -55,18 +56,34 @@ fn reads_back_what_it_spells(rt: HostRuntime) -> Result<(), Fail> {
 }
 
 #[test]
-fn buffers_a_line(rt: HostRuntime) {
-    let mut octets = [0; LONGEST_LINE];
+fn buffers_a_line(rt: HostRuntime) -> Result<(), Fail> {
     let mut line = LineBuffer::new();
     assert!(rt; line.is_empty());
     line.push(b'0');
     line.push(b'7');
     assert!(rt; !line.is_empty());
-    assert_eq!(rt; line.octets(&mut octets), Some(1));
-    assert_eq!(rt; octets[0], 7);
+    let octets = line.octets().ok_or_else(|| Fail::new("a bad line"))?;
+    assert_eq!(rt; octets.as_slice(), [7].as_slice());
     line.clear();
     for _ in 0..100_000 {
         line.push(b'0');
     }
-    assert_eq!(rt; line.octets(&mut octets), None);
+    assert!(rt; line.octets().is_none());
+    Ok(())
+}
+
+#[test]
+fn gives_each_line(rt: HostRuntime) -> Result<(), Fail> {
+    let mut lengths = Vec::new(rt.alloc());
+    each_line(
+        b"0A 0B\n\nFF".as_slice(),
+        |line| Ok(lengths.push(line.text().len())?),
+    )?;
+    assert_eq!(rt; lengths.as_slice(), [5, 0, 2].as_slice());
+    each_line(
+        b"0A\n".as_slice(),
+        |line| Ok(lengths.push(line.text().len())?),
+    )?;
+    assert_eq!(rt; lengths.as_slice(), [5, 0, 2, 2].as_slice());
+    Ok(())
 }

@@ -1,8 +1,9 @@
-use Rattle.std.proofs.Common.{◌≡◌, ℕ, ◌+◌, ◌<◌, ◌≤◌, List, [], ◌∷◌, ◌++◌, length, get_or, take, set, Some, None, sym, ap, ◌∙◌, arith}
-use Rattle.std.proofs.lemmas.List.{take_more, take_more_set, take_all, length-set}
+-- A memory copied into another, cell by cell.
+use Rattle.std.proofs.Common.{◌≡◌, ℕ, ◌+◌, ◌<◌, ◌≤◌, List, [], ◌∷◌, ◌++◌, length, get_or, take, set, Some, sym, ap, ◌∙◌, arith}
+use Rattle.std.proofs.lemmas.List.{take_more, take_more_set, length-set}
 use Rattle.memory.specs.Top.{top_of}
 use Rattle.memory.specs.Cells.{read_of, written}
-use Rattle.memory.proofs.Facts.{read_is, read_never, written_yes}
+use Rattle.memory.proofs.Facts.{read_is, written_yes}
 
 -- the copy of one more cell: fs are the cells to copy, gs the same as the turn finds them, us those copied to after it
 pub copy_step :
@@ -17,11 +18,3 @@ copy_step ts fs gs us i v same h l t read b after =
       ap (take (i + 1)) w ∙ (take_more_set ts i v h2 ∙ (ap (λ x. x ++ v ∷ []) t ∙ (ap (λ y. take i fs ++ y ∷ []) e ∙ sym (take_more fs i 0 h)))),
       ap length w ∙ (length-set ts i v ∙ l),
     )
-
--- within the count a read answers a value
-pub copy_never : (fs gs : List ℕ) (i : ℕ) → gs ≡ fs → i < length fs → None ≡ read_of gs i → ⊥
-copy_never fs gs i same h read = read_never fs i h (read ∙ ap (λ cs. read_of cs i) same)
-
--- the end of the copy
-pub copy_end : (ts fs : List ℕ) (n : ℕ) → length fs ≤ n → length ts ≡ length fs → take n ts ≡ take n fs → ts ≡ fs
-copy_end ts fs n h l t = sym (take_all n ts (omega arith)) ∙ (t ∙ take_all n fs h)

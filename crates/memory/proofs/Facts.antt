@@ -1,11 +1,19 @@
-use Rattle.std.proofs.Common.{◌≡◌, ℕ, ◌+◌, ◌*◌, ◌/◌, ◌%◌, ◌<◌, ◌≤◌, true, false, cond, ◌≢◌, ◌⊎◌, List, [], ◌∷◌, ◌++◌, length, get_or, set, Some, None, sym, refl, ap, ◌∙◌, subst, inl, inr, mod-lt, arith}
+use Rattle.std.proofs.Common.{◌≡◌, ℕ, ◌+◌, ◌*◌, ◌/◌, ◌%◌, ◌<◌, ◌≤◌, true, false, cond, ◌≢◌, ◌⊎◌, List, length, get_or, set, Some, None, sym, refl, ap, ◌∙◌, subst, inl, inr, mod-lt, arith}
 use native.Mathlib.Nat.{div-add-mod}
+use Rattle.std.specs.Int.{w16, to_be_bytes}
 use Rattle.std.proofs.lemmas.List.{ext_get_or, length-set, get_or-set_same, get_or-set_other, get_or_past}
-use Rattle.std.proofs.lemmas.List.FromFn.{length-map-range_with_len, get_or-map-range_with_len, map-range_with_len_more}
+use Rattle.std.proofs.lemmas.List.FromFn.{length-map-range_with_len, get_or-map-range_with_len}
 use Rattle.std.proofs.lemmas.Bool.{cases_eq, cases_lt, cond-true, cond-false, lt-ltb, le-ltb, le-leb, lt-leb, and_from, and_left, and_right}
 use Rattle.memory.specs.Cells.{read_of, takes, written}
 use Rattle.memory.specs.Top.{wide, top_of}
 use Rattle.memory.specs.Held.{list_by, word_cell, word_cells, word_highs, WordsDetermined}
+
+-- the two octets of a number below 65536
+pub high_octet : (os : List ℕ) (v : ℕ) → v < 65536 → os ≡ to_be_bytes w16 v → get_or os 0 0 ≡ v / 256
+high_octet os v h e = ap (λ xs. get_or xs 0 0) e ∙ omega arith
+
+pub low_octet : (os : List ℕ) (v : ℕ) → os ≡ to_be_bytes w16 v → get_or os 1 0 ≡ v % 256
+low_octet os v e = ap (λ xs. get_or xs 1 0) e
 
 pub length-list_by : (f : ℕ → ℕ) (n : ℕ) → length (list_by f n) ≡ n
 unfolding list_by
@@ -14,10 +22,6 @@ length-list_by f n = length-map-range_with_len f 0 n
 pub get_or-list_by : (f : ℕ → ℕ) (n i : ℕ) → i < n → get_or (list_by f n) i 0 ≡ f i
 unfolding list_by
 get_or-list_by f n i h = get_or-map-range_with_len f 0 n i i 0 h (omega arith)
-
-pub list_by_more : (f : ℕ → ℕ) (n : ℕ) → list_by f (n + 1) ≡ list_by f n ++ f n ∷ []
-unfolding list_by
-list_by_more f n = map-range_with_len_more f 0 n n (omega arith)
 
 pub list_by_ext : (f g : ℕ → ℕ) (n : ℕ) → ((k : ℕ) → k < n → f k ≡ g k) → list_by f n ≡ list_by g n
 list_by_ext f g n same =
@@ -153,3 +157,6 @@ read_never cs n h e =
     let s : Some (get_or cs n 0) ≡ read_of cs n = read_some cs n _ h refl in
     let z : ◌≡◌ {A = ℕ} 0 1 = cc in
     omega arith
+
+-- what the functions over words need
+pub ruleset word_facts = (length-word_cells, bounded_word_cells, get_or-word_cells, mod_wide, mod_narrow, read_some, read_none, takes_yes, takes_no, written_yes, written_no, low_octet)

@@ -3,7 +3,7 @@ use Rattle.std.proofs.lemmas.List.{length-set, ext_get_or, get_or-set_same, get_
 use Rattle.std.proofs.lemmas.Bool.{cases_eq, cases_lt, cases_Bool, lt-ltb, le-ltb, eq-eqb, ne_eqb}
 use Rattle.memory.specs.Top.{cell_count, packed_length, wide, top_of, wides_below, octet_of, width_of}
 use Rattle.memory.specs.Held.{list_by, packed_cell, packed_cells, packed_spare, OctetsDetermined}
-use Rattle.memory.proofs.Facts.{length-list_by, get_or-list_by, bounded_list_by, list_by-set, top_wide, top_narrow}
+use Rattle.memory.proofs.Facts.{read_some, read_none, takes_yes, takes_no, written_yes, written_no, length-list_by, get_or-list_by, bounded_list_by, list_by-set, top_wide, top_narrow}
 
 below_low : (n : ℕ) → n < 608 → wides_below n ≡ (n + 18) / 38
 unfolding wides_below
@@ -36,6 +36,10 @@ width_wide n e = ap (λ b. cond b 2 1) e
 pub width_narrow : (n : ℕ) → wide n ≡ false → width_of n ≡ 1
 unfolding width_of
 width_narrow n e = ap (λ b. cond b 2 1) e
+
+pub width_some : (n : ℕ) → 1 ≤ width_of n
+unfolding width_of
+width_some n = elim (cases_Bool (wide n)) [ inl e ↦ omega (arith, width_wide n e) | inr e ↦ omega (arith, width_narrow n e) ]
 
 pub octet_is : (n : ℕ) → octet_of n ≡ n + wides_below n
 unfolding octet_of
@@ -160,6 +164,14 @@ length_packed os e = ap length (packed_is os e) ∙ length-list_by (packed_cell 
 pub length_packed_none : (os : List ℕ) → (length os ≡ packed_length → ⊥) → length (packed_cells os) ≡ 0
 unfolding packed_cells
 length_packed_none os e = length-list_by _ _ ∙ simp (ne_eqb (length os) packed_length e)
+
+-- a cell within the count: the octets have the right length
+pub count_packed : (os : List ℕ) (n : ℕ) → n < length (packed_cells os) → (length os ≡ packed_length) × (n < cell_count)
+count_packed os n h =
+    elim (cases_eq (length os) packed_length) [
+      | inl e ↦ (e, omega (arith, length_packed os e))
+      | inr ne ↦ absurd (omega (arith, length_packed_none os ne))
+    ]
 
 pub bounded_packed : (os : List ℕ) (n : ℕ) → get_or (packed_cells os) n 0 ≤ top_of n
 unfolding packed_cells
@@ -328,3 +340,8 @@ octets_determined os ps o< p< cells spare =
             | inr d ↦ sym (spare_other os e) ∙ (spare ∙ spare_other ps d)
           ]
     ]
+
+pub ruleset octet_cases = (octet_low, octet_mid, octet_high)
+
+-- what the functions over octets need
+pub ruleset packed_facts = (length_packed, length_packed_none, bounded_packed, count_packed, octet_end, width_some, width_wide, width_narrow, read_some, read_none, takes_yes, takes_no, written_yes, written_no)

@@ -35,7 +35,7 @@ const DETECTOR_CELLS: usize = 10;
 const DETECTOR_DELAY: usize = 3;
 
 // A write that the memory does not take.
-#[derive(Clone, Copy)]
+#[derive(Clone, Copy, Debug, PartialEq, Eq)]
 pub struct Refused;
 
 pub trait ParameterMemory {
@@ -45,7 +45,8 @@ pub trait ParameterMemory {
     // What no operation ever changes: the lent references, and what they hold besides the cells.
     ghost kept: { Self → List ℕ };
 
-    // What the memory relies on between its operations.
+    // What the memory relies on between its operations. It is asked by clause, since a value of a bound has no invariant, and a
+    // ghost field has to be a proposition, which this need not be.
     ghost sound: { Self → Type 0 } = { λ _. Unit {0} };
 
     // How many cells there are.
@@ -73,6 +74,7 @@ pub trait ParameterMemory {
 }
 
 // Whether the cell `at` is wide.
+#[tactic(auto, unfolding(crate::specs::Top::wide))]
 pub fn is_wide(at: usize) -> bool
     ensures { result ≡ wide at }
 {
@@ -86,6 +88,7 @@ pub fn is_wide(at: usize) -> bool
 }
 
 // The top of the cell `at`.
+#[tactic(auto, using(crate::proofs::Facts::top_wide, crate::proofs::Facts::top_narrow))]
 pub fn top_of(at: usize) -> u16
     ensures { result ≡ top_of at }
 {
@@ -103,11 +106,14 @@ impl<'a> ParameterMemory for WordMemory<'a> {
 
     ghost kept = { λ m. m.words.ghost_name ∷ word_highs m.words.now };
 
+    #[tactic(auto, using(crate::proofs::Facts::word_facts))]
     fn count(&self) -> usize {
         self.words.len()
     }
 
+    #[tactic(auto, using(crate::proofs::Facts::word_facts))]
     fn read(&mut self, at: usize) -> Option<u16> {
+        // `get` was tried, and the proof did not close: behind its `?` no word is known.
         if at >= self.words.len() {
             return None;
         }
@@ -115,11 +121,14 @@ impl<'a> ParameterMemory for WordMemory<'a> {
         if is_wide(at) {
             Some(word)
         } else {
-            Some(word % 256)
+            let [_, low] = word.to_be_bytes();
+            Some(u16::from(low))
         }
     }
 
+    #[tactic(auto, using(crate::proofs::Facts::word_facts))]
     fn write(&mut self, at: usize, value: u16) -> Result<(), Refused> {
+        // By index, since no item is known after a `get_mut`.
         if at >= self.words.len() || value > top_of(at) {
             return Err(Refused);
         }
@@ -127,18 +136,19 @@ impl<'a> ParameterMemory for WordMemory<'a> {
         if is_wide(at) {
             self.words[at] = value;
         } else {
-            self.words[at] = word - word % 256 + value;
+            let [high, _] = word.to_be_bytes();
+            let [_, low] = value.to_be_bytes();
+            self.words[at] = u16::from_be_bytes([high, low]);
         }
         Ok(())
     }
 }
 
 // Words are known by their cells and what they hold besides: nothing of the lent words is left out of the two.
-pub fn words_are_cells_and_highs() -> u8
+#[tactic(auto, using(crate::proofs::Facts::words_determined))]
+pub fn words_are_cells_and_highs()
     ensures { WordsDetermined }
-{
-    0
-}
+{}
 
 #[cfg(test)]
 mod tests;

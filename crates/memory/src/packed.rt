@@ -10,6 +10,7 @@ use super::{
 
 // The octet at which the cell `at` begins: one for each cell below it, and one more for each wide one, of which each of
 // the 16 phase rows and each of the 64 detector rows has one.
+#[tactic(auto, using(crate::proofs::Octets::octet_cases))]
 fn octet_of(at: usize) -> usize
     requires { at < cell_count }
     ensures { result ≡ octet_of at }
@@ -35,6 +36,7 @@ impl<'a> ParameterMemory for PackedMemory<'a> {
 
     ghost kept = { λ m. m.octets.ghost_name ∷ packed_spare m.octets.now };
 
+    #[tactic(auto, using(crate::proofs::Octets::packed_facts))]
     fn count(&self) -> usize {
         if self.octets.len() == PACKED_OCTETS {
             CELLS
@@ -43,45 +45,40 @@ impl<'a> ParameterMemory for PackedMemory<'a> {
         }
     }
 
+    #[tactic(auto, using(crate::proofs::Octets::packed_facts))]
     fn read(&mut self, at: usize) -> Option<u16> {
-        if self.octets.len() != PACKED_OCTETS {
-            return None;
-        }
-        if at >= CELLS {
+        if at >= self.count() {
             return None;
         }
         let from = octet_of(at);
+        let first = self.octets[from];
         if is_wide(at) {
-            Some(self.octets[from] as u16 * 256 + self.octets[from + 1] as u16)
+            let second = self.octets[from + 1];
+            Some(u16::from_be_bytes([first, second]))
         } else {
-            Some(self.octets[from] as u16)
+            Some(u16::from(first))
         }
     }
 
+    #[tactic(auto, using(crate::proofs::Octets::packed_facts))]
     fn write(&mut self, at: usize, value: u16) -> Result<(), Refused> {
-        if self.octets.len() != PACKED_OCTETS {
-            return Err(Refused);
-        }
-        if at >= CELLS {
-            return Err(Refused);
-        }
-        if value > top_of(at) {
+        if at >= self.count() || value > top_of(at) {
             return Err(Refused);
         }
         let from = octet_of(at);
+        let [high, low] = value.to_be_bytes();
         if is_wide(at) {
-            self.octets[from] = (value / 256) as u8;
-            self.octets[from + 1] = (value % 256) as u8;
+            self.octets[from] = high;
+            self.octets[from + 1] = low;
         } else {
-            self.octets[from] = value as u8;
+            self.octets[from] = low;
         }
         Ok(())
     }
 }
 
 // Octets are known by their cells and those that are no cell's: nothing of the lent octets is left out of the two.
-pub fn octets_are_cells_and_spare() -> u8
+#[tactic(auto, using(crate::proofs::Octets::octets_determined))]
+pub fn octets_are_cells_and_spare()
     ensures { OctetsDetermined }
-{
-    0
-}
+{}

@@ -1,62 +1,47 @@
 -- The octets of a reply, taken apart.
-use Rattle.std.proofs.Common.{◌≡◌, ℕ, ◌+◌, ◌-◌, ◌*◌, ◌/◌, ◌%◌, ◌<◌, ◌≤◌, List, [], ◌∷◌, ◌++◌, length, get_or, take, drop, sym, refl, ap, ◌∙◌, arith}
-use Rattle.std.proofs.lemmas.List.{append_assoc, take_more, take_rest, length-drop}
+use Rattle.std.proofs.Common.{◌≡◌, ℕ, zero, suc, ◌+◌, ◌-◌, ◌*◌, ◌/◌, ◌%◌, ◌<◌, ◌≤◌, List, [], ◌∷◌, length, get_or, map, take, drop, sym, refl, ap, ◌∙◌, arith}
+use Rattle.std.specs.Int.{w16, from_be_bytes}
+use Rattle.std.specs.Simd.{first_chunks}
+use Rattle.std.proofs.lemmas.List.{take_rest}
 use Rattle.transfers.specs.Gets.{two_octets}
-use Rattle.transfers.proofs.GetFacts.{octets_more, length-octets}
-use Rattle.readings.specs.Replies.{numbers_reply}
+use Rattle.transfers.proofs.GetFacts.{length-octets}
+use Rattle.readings.specs.Replies.{numbers_reply, Says}
+use Rattle.readings.specs.declared.Reading.TheVariants.{Unclear}
 
-pub one : (xs : List ℕ) → length xs ≡ 1 → xs ≡ get_or xs 0 0 ∷ []
-one [] h = absurd (omega arith)
-one (a ∷ []) h = refl
-one (a ∷ b ∷ xs) h = absurd (omega arith)
+-- two octets and as many more as the second one says
+pub as_numbers : (xs vs : List ℕ) → 2 ≤ length xs → get_or xs 0 0 ≡ 0 → length xs ≡ 2 + 2 * get_or xs 1 0 → two_octets vs ≡ take (length xs - 2) (drop 2 xs) → xs ≡ numbers_reply vs
+as_numbers [] vs h z l t = absurd (omega arith)
+as_numbers (a ∷ []) vs h z l t = absurd (omega arith)
+as_numbers (a ∷ b ∷ xs) vs h z l t =
+    let rest : xs ≡ two_octets vs = sym (take_rest (a ∷ b ∷ xs) 2) ∙ sym t in
+    let n : b ≡ length vs = omega (arith, length-octets vs, ap length rest) in
+    cc
 
-four : (xs : List ℕ) → length xs ≡ 4 → xs ≡ get_or xs 0 0 ∷ get_or xs 1 0 ∷ get_or xs 2 0 ∷ get_or xs 3 0 ∷ []
-four [] h = absurd (omega arith)
-four (a ∷ []) h = absurd (omega arith)
-four (a ∷ b ∷ []) h = absurd (omega arith)
-four (a ∷ b ∷ c ∷ []) h = absurd (omega arith)
-four (a ∷ b ∷ c ∷ d ∷ []) h = refl
-four (a ∷ b ∷ c ∷ d ∷ e ∷ xs) h = absurd (omega arith)
+-- what is none of the three
+pub unclear :
+    (xs : List ℕ) → (length xs ≡ 1 → get_or xs 0 0 ≡ 0 → ⊥) → (2 ≤ length xs → get_or xs 0 0 ≡ 0 → length xs ≡ 2 + 2 * get_or xs 1 0 → ⊥)
+    → (length xs ≡ 4 → 0 < get_or xs 0 0 → ⊥) → Says xs Unclear
+unclear xs done numbers refused = (
+  λ e. done (ap length e) (ap (λ ys. get_or ys 0 0) e),
+  λ vs e. numbers (omega (arith, ap length e)) (ap (λ ys. get_or ys 0 0) e) (omega (arith, length-octets vs, ap length e, ap (λ ys. get_or ys 1 0) e)),
+  λ f h e. refused (ap length e) (omega (arith, ap (λ ys. get_or ys 0 0) e)),
+)
 
-pub four_with_place :
-    (xs : List ℕ) (v : ℕ) → length xs ≡ 4 → v / 256 ≡ get_or xs 2 0 → v % 256 ≡ get_or xs 3 0
-    → xs ≡ get_or xs 0 0 ∷ get_or xs 1 0 ∷ v / 256 ∷ v % 256 ∷ []
-four_with_place xs v h high low =
-    four xs h
-    ∙ (ap (λ n. get_or xs 0 0 ∷ get_or xs 1 0 ∷ n ∷ get_or xs 3 0 ∷ []) (sym high)
-    ∙ ap (λ n. get_or xs 0 0 ∷ get_or xs 1 0 ∷ v / 256 ∷ n ∷ []) (sym low))
+-- the pairs of octets, each read as a number
+pub from_pairs : (n : ℕ) (xs : List ℕ) → length xs ≡ 2 * n → ((i : ℕ) → get_or xs i 0 < 256) → two_octets (map (from_be_bytes w16) (first_chunks 2 n xs)) ≡ xs
+from_pairs zero [] h s = refl
+from_pairs zero (a ∷ xs) h s = absurd (omega arith)
+from_pairs (suc n) [] h s = absurd (omega arith)
+from_pairs (suc n) (a ∷ []) h s = absurd (omega arith)
+from_pairs (suc n) (a ∷ b ∷ xs) h s =
+    let v = from_be_bytes w16 (a ∷ b ∷ []) in
+    let low : b < 256 = s 1 in
+    let high_is : v / 256 ≡ a = omega arith in
+    let low_is : v % 256 ≡ b = omega arith in
+    let rest : two_octets (map (from_be_bytes w16) (first_chunks 2 n xs)) ≡ xs = from_pairs n xs (omega arith) (λ i. s (suc (suc i))) in
+    cc
 
-pub two_and_rest : (xs : List ℕ) → 2 ≤ length xs → xs ≡ get_or xs 0 0 ∷ get_or xs 1 0 ∷ take (length xs - 2) (drop 2 xs)
-two_and_rest [] h = absurd (omega arith)
-two_and_rest (a ∷ []) h = absurd (omega arith)
-two_and_rest (a ∷ b ∷ xs) h = ap (λ ys. a ∷ b ∷ ys) (sym (take_rest (a ∷ b ∷ xs) 2))
-
--- a reply of numbers has two octets for each
-pub counted : (xs vs : List ℕ) → xs ≡ numbers_reply vs → length (take (length xs - 2) (drop 2 xs)) ≡ 2 * get_or xs 1 0
-counted xs vs e =
-    omega (arith, ap length e, ap (λ ys. get_or ys 1 0) e, length-octets vs, ap length (take_rest xs 2), length-drop 2 xs)
-
-take_two : (xs : List ℕ) (i : ℕ) → 2 * i + 1 < length xs → take (2 * (i + 1)) xs ≡ take (2 * i) xs ++ (get_or xs (2 * i) 0 ∷ get_or xs (2 * i + 1) 0 ∷ [])
-take_two xs i h =
-    let n : 2 * (i + 1) ≡ 2 * i + 1 + 1 = omega arith in
-    let here : 2 * i < length xs = omega arith in
-    ap (λ m. take m xs) n
-    ∙ (take_more xs (2 * i + 1) 0 h
-    ∙ (ap (λ ys. ys ++ get_or xs (2 * i + 1) 0 ∷ []) (take_more xs (2 * i) 0 here)
-    ∙ append_assoc (take (2 * i) xs) (get_or xs (2 * i) 0 ∷ []) (get_or xs (2 * i + 1) 0 ∷ [])))
-
--- one number more
-pub pair_more :
-    (xs vs ws : List ℕ) (v i : ℕ) → 2 * i + 1 < length xs → ws ≡ vs ++ v ∷ []
-    → v / 256 ≡ get_or xs (2 * i) 0 → v % 256 ≡ get_or xs (2 * i + 1) 0
-    → two_octets vs ≡ take (2 * i) xs → two_octets ws ≡ take (2 * (i + 1)) xs
-pair_more xs vs ws v i h e high low t =
-    ap two_octets e
-    ∙ (octets_more vs v
-    ∙ (ap (λ ys. ys ++ (v / 256 ∷ v % 256 ∷ [])) t
-    ∙ (ap (λ n. take (2 * i) xs ++ (n ∷ v % 256 ∷ [])) high
-    ∙ (ap (λ n. take (2 * i) xs ++ (get_or xs (2 * i) 0 ∷ n ∷ [])) low ∙ sym (take_two xs i h)))))
-
+-- numbers, and their count before them
 pub numbers_reply_lem :
     (xs values vs : List ℕ) (n : ℕ) → xs ≡ 0 ∷ n ∷ values → length values ≡ 2 * n → two_octets vs ≡ values → xs ≡ numbers_reply vs
 numbers_reply_lem xs values vs n e l t =

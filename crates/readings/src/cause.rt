@@ -2,10 +2,11 @@ ghost use Rattle.std.specs.Prelude.{◌≡◌, MatchOption, ◌≢◌};
 ghost use Rattle.readings.specs.declared.cause.Cause.{Cause};
 ghost use Rattle.readings.specs.Causes.{cause_number, cause_layer};
 
+use crate::Fault;
 use std::fmt;
 
 // What a refusal finds fault with.
-#[derive(Clone, Copy)]
+#[derive(Clone, Copy, Debug, PartialEq, Eq)]
 pub enum Cause {
     Octets,
     Mode,
@@ -13,12 +14,12 @@ pub enum Cause {
     Value,
 }
 
-impl Cause {
+impl Fault {
     // The cause with this number and layer.
-    pub fn from_refusal(number: u8, layer: u8) -> Option<Cause>
-        ensures { MatchOption result ((c : Cause) → cause_number c ≡ number → cause_layer c ≢ layer) (λ c. (cause_number c ≡ number) × (cause_layer c ≡ layer)) }
+    pub fn cause(self) -> Option<Cause>
+        ensures { MatchOption result ((c : Cause) → cause_number c ≡ self.number → cause_layer c ≢ self.layer) (λ c. (cause_number c ≡ self.number) × (cause_layer c ≡ self.layer)) }
     {
-        match (number, layer) {
+        match (self.number, self.layer) {
             (6, 1) => Some(Cause::Octets),
             (5, 2) => Some(Cause::Mode),
             (2, 4) => Some(Cause::Address),
@@ -30,11 +31,27 @@ impl Cause {
 
 impl fmt::Display for Cause {
     fn fmt<W: fmt::Write>(&self, f: &mut fmt::Formatter<W>) -> fmt::Result {
-        match self {
-            Cause::Octets => f.write_str("the request's octets"),
-            Cause::Mode => f.write_str("not taken in this mode"),
-            Cause::Address => f.write_str("an address that names no number"),
-            Cause::Value => f.write_str("a value that is not allowed"),
+        f.write_str(match self {
+            Cause::Octets => "the request's octets",
+            Cause::Mode => "not taken in this mode",
+            Cause::Address => "an address that names no number",
+            Cause::Value => "a value that is not allowed",
+        })
+    }
+}
+
+// Number, layer and place, and the cause if there is one.
+impl fmt::Display for Fault {
+    fn fmt<W: fmt::Write>(&self, f: &mut fmt::Formatter<W>) -> fmt::Result {
+        let Fault {
+            number,
+            layer,
+            place,
+        } = *self;
+        write!(f, "{number}, layer {layer}, place {place}")?;
+        if let Some(cause) = self.cause() {
+            write!(f, ": {cause}")?;
         }
+        Ok(())
     }
 }

@@ -20,9 +20,6 @@ or_T false b t = inr t
 one_cell : Column → Bool
 one_cell c = eqb (cells_of c) 1
 
-list_cells : Column → Bool
-list_cells c = eqb (cells_of c) 17
-
 list_place : ℕ → Bool
 list_place i = eqb i 21 || eqb i 46
 
@@ -108,10 +105,11 @@ cell_below p s = omega (arith, cell_last p s, (sizes p.family).ends)
 
 -- the cell's number as the code adds it up
 pub cell_sum :
-    (p : Place) (s : Shape) (before : ℕ) → s ≡ shape_of p.family → before ≡ p.second - 1
-    → s.cells_before + (before * s.last_first + (p.first - 1)) * s.row_cells + (p.column - 1) + p.octet ≡ cell_of p
+    (p : Place) (s : Shape) (before last first : ℕ)
+    → s ≡ shape_of p.family → before ≡ p.second - 1 → last ≡ s.last_first → first ≡ p.first - 1
+    → s.cells_before + (before * last + first) * s.row_cells + (p.column - 1) + p.octet ≡ cell_of p
 unfolding cell_of
-cell_sum p s before e b = rw (e, b) refl
+cell_sum p s before last first e b l f = rw (b, l, f, e) refl
 
 -- which family a cell number belongs to
 family_at : ℕ → FamilyId
@@ -291,3 +289,6 @@ column_within Pattern c l h = omega arith
 column_within Split c l h = omega arith
 column_within Action c l h = omega arith
 column_within Sequence c l h = omega arith
+
+-- what the ways from a place to its cell and back need
+pub ruleset cell_facts = (cell_sum, cell_below, row_below, at_below, cell_made)

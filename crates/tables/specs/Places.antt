@@ -1,5 +1,5 @@
 -- Where a value stands, and the number of its cell.
-use Rattle.std.specs.Prelude.{◌≡◌, ℕ, ◌+◌, ◌-◌, ◌*◌, ◌<◌, ◌≤◌, min, false, cond, ◌==◌}
+use Rattle.std.specs.Prelude.{◌≡◌, ℕ, ◌+◌, ◌-◌, ◌*◌, ◌<◌, ◌≤◌, min, false, cond, List, ◌==◌, slice_index}
 use Rattle.memory.specs.Top.{top_of}
 use Rattle.tables.specs.declared.place.Place.{Place}
 use Rattle.tables.specs.declared.address.Address.{Address}
@@ -26,6 +26,10 @@ cell_of p = (shape_of p.family).cells_before + rows_before p * (shape_of p.famil
 -- each cell of the table has one place
 abbrev pub OnePlace : Type 0
 OnePlace = (p q : Place) → Stands p → Stands q → cell_of p ≡ cell_of q → p ≡ q
+
+-- the address that four octets are
+abbrev pub address_from : List ℕ → Address
+address_from os = record { id = slice_index os 0; column = slice_index os 1; first = slice_index os 2; second = slice_index os 3 }
 
 -- the address names the number column that stands at this place
 pub record Names (a : Address) (p : Place) : Type 0 where

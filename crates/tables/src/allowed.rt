@@ -1,29 +1,35 @@
 ghost use Rattle.std.specs.Prelude.{◌≡◌, true, Decides};
 ghost use Rattle.tables.specs.Families.{is_list};
 ghost use Rattle.tables.specs.Places.{Stands};
-ghost use Rattle.tables.specs.Allowed.{allows, kind_means, stored, holds};
+ghost use Rattle.tables.specs.Allowed.{both_set, allows, kind_means, stored, holds};
 
 use super::columns::{Column, Kind};
 use super::place::Place;
+
+// Whether bits 2 and 3 are both set.
+#[tactic(auto, using(crate::proofs::Options::both_bits))]
+fn both_set(value: u16) -> bool
+    ensures { result ≡ both_set value }
+{
+    value & 0b1100 == 0b1100
+}
 
 impl Kind {
     // Whether the column holds lists.
     pub fn is_list(self) -> bool
         ensures { result ≡ is_list self }
     {
-        match self {
-            Kind::PhaseList => true,
-            Kind::Number | Kind::DetectorOptions | Kind::ActionPattern => false,
-        }
+        matches!(self, Kind::PhaseList)
     }
 
     // What a sent value means: detector options with bits 2 and 3 both set are read with bit 3 clear.
+    #[tactic(auto, using(crate::proofs::Options::bit_3_off))]
     pub fn meaning(self, value: u16) -> u16
         ensures { result ≡ kind_means self value }
     {
         match self {
-            Kind::DetectorOptions => { if value / 4 % 4 == 3 { value - 8 } else { value } }
-            Kind::Number | Kind::ActionPattern | Kind::PhaseList => value,
+            Kind::DetectorOptions if both_set(value) => value & !0b1000,
+            _ => value,
         }
     }
 }
@@ -33,11 +39,11 @@ impl Column {
     pub fn allows(self, value: u16) -> bool
         ensures { result ≡ allows self value }
     {
-        let in_range = self.least <= value && value <= self.greatest;
+        let in_range = (self.least..=self.greatest).contains(&value);
         match self.kind {
             Kind::Number | Kind::PhaseList => in_range,
-            Kind::DetectorOptions => in_range && value / 4 % 4 != 3,
-            Kind::ActionPattern => in_range || value == 254 || value == 255,
+            Kind::DetectorOptions => in_range && !both_set(value),
+            Kind::ActionPattern => in_range || matches!(value, 254 | 255),
         }
     }
 
@@ -46,11 +52,7 @@ impl Column {
         ensures { result ≡ stored self sent }
     {
         let value = self.kind.meaning(sent);
-        if self.allows(value) {
-            Some(value)
-        } else {
-            None
-        }
+        self.allows(value).then_some(value)
     }
 }
 
@@ -71,7 +73,7 @@ impl Place {
         if self.octet == 0 {
             return value <= 16;
         }
-        if self.octet as u16 <= length {
+        if u16::from(self.octet) <= length {
             column.allows(value)
         } else {
             value == 0

@@ -5,27 +5,21 @@ ghost use Rattle.tables.specs.Factory.{factory_cell, FactoryByPlace, FactoryAllo
 pub fn factory_value(cell: usize) -> u16
     ensures { result ≡ factory_cell cell }
 {
-    if cell < 608 {
-        if cell % 38 == 18 { 1 } else { 0 }
-    } else if cell < 1408 {
-        0
-    } else if cell < 2176 {
-        if (cell - 1408) % 3 == 1 { 2 } else { 0 }
-    } else {
-        0
+    match cell {
+        ..608 if cell % 38 == 18 => 1,
+        1408..2176 if (cell - 1408) % 3 == 1 => 2,
+        _ => 0,
     }
 }
 
 // Each place of the factory table has its column's factory value.
-pub fn factory_values_stand_by_column() -> u8
+#[tactic(auto, using(crate::proofs::FactoryFacts::factory_at))]
+pub fn factory_values_stand_by_column()
     ensures { FactoryByPlace }
-{
-    0
-}
+{}
 
 // Every cell of the factory table is allowed.
-pub fn factory_table_is_allowed() -> u8
+#[tactic(auto, using(crate::proofs::FactoryFacts::factory_allowed))]
+pub fn factory_table_is_allowed()
     ensures { FactoryAllowed }
-{
-    0
-}
+{}

@@ -1,9 +1,9 @@
-ghost use Rattle.std.specs.Prelude.{◌≡◌, MatchOption, ◌≢◌};
+ghost use Rattle.std.specs.Prelude.{◌≡◌, MatchResult, ◌≢◌};
 ghost use Rattle.tables.specs.declared.family.FamilyId.{FamilyId};
 ghost use Rattle.tables.specs.Families.{shape_of};
 
 // The families of parameters, by their data ID.
-#[derive(Clone, Copy)]
+#[derive(Clone, Copy, Debug, PartialEq, Eq)]
 pub enum FamilyId {
     Phase,
     VehicleDetector,
@@ -15,13 +15,13 @@ pub enum FamilyId {
 }
 
 // What a family's rows and columns are, and where they stand.
-#[derive(Clone, Copy)]
+#[derive(Clone, Copy, Debug, PartialEq, Eq)]
 pub struct Shape {
     // data ID
     pub id: u8,
     // the last value of the first index
     pub last_first: u8,
-    // the last value of the second index, 0 where the family has one index
+    // the last value of the second index, 0 where the family has one index: an address then has a 0 there
     pub last_second: u8,
     // how many columns come before in the table of all columns
     pub columns_before: usize,
@@ -33,23 +33,31 @@ pub struct Shape {
     pub row_cells: usize,
 }
 
-impl FamilyId {
-    // The family with this data ID.
-    pub fn from_id(id: u8) -> Option<FamilyId>
-        ensures { MatchOption result ((f : FamilyId) → (shape_of f).id ≢ id) (λ f. (shape_of f).id ≡ id) }
-    {
+// A data ID that no family has.
+#[derive(Clone, Copy, Debug, PartialEq, Eq)]
+pub struct UnknownId;
+
+// The family with a data ID.
+impl TryFrom<u8> for FamilyId {
+    type Error = UnknownId;
+
+    ghost try_from_gives = { λ id r. MatchResult r (λ f. (shape_of f).id ≡ id) (λ _. (f : FamilyId) → (shape_of f).id ≢ id) };
+
+    fn try_from(id: u8) -> Result<FamilyId, UnknownId> {
         match id {
-            0 => Some(FamilyId::Phase),
-            1 => Some(FamilyId::VehicleDetector),
-            2 => Some(FamilyId::PedestrianDetector),
-            3 => Some(FamilyId::Pattern),
-            4 => Some(FamilyId::Split),
-            5 => Some(FamilyId::Action),
-            7 => Some(FamilyId::Sequence),
-            _ => None,
+            0 => Ok(FamilyId::Phase),
+            1 => Ok(FamilyId::VehicleDetector),
+            2 => Ok(FamilyId::PedestrianDetector),
+            3 => Ok(FamilyId::Pattern),
+            4 => Ok(FamilyId::Split),
+            5 => Ok(FamilyId::Action),
+            7 => Ok(FamilyId::Sequence),
+            _ => Err(UnknownId),
         }
     }
+}
 
+impl FamilyId {
     pub fn shape(self) -> Shape
         ensures { result ≡ shape_of self }
     {

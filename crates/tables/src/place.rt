@@ -3,13 +3,13 @@ ghost use Rattle.memory.specs.Top.{cell_count};
 ghost use Rattle.tables.specs.Families.{shape_of, column_of, cells_of, rows_of, cells_end};
 ghost use Rattle.tables.specs.Places.{Stands, cell_of, OnePlace, TopsFollowWidths};
 
-use super::columns::{COLUMNS, Column, Kind};
+use super::columns::{COLUMNS, Column};
 use super::family::FamilyId;
 use memory::CELLS;
 
-// Where a cell stands. `second` is 0 where the family has one index; `octet` is 0 for a number and for a list's
+// Where a cell stands. `second` is 0 where the family has one index, as in an address; `octet` is 0 for a number and for a list's
 // length, and 1 to 16 for the octets of a list.
-#[derive(Clone, Copy)]
+#[derive(Clone, Copy, Debug, PartialEq, Eq)]
 pub struct Place {
     pub family: FamilyId,
     pub first: u8,
@@ -23,10 +23,7 @@ impl Column {
     pub fn cells(self) -> u8
         ensures { result ≡ cells_of self }
     {
-        match self.kind {
-            Kind::PhaseList => 17,
-            Kind::Number | Kind::DetectorOptions | Kind::ActionPattern => 1,
-        }
+        if self.kind.is_list() { 17 } else { 1 }
     }
 }
 
@@ -36,17 +33,11 @@ impl FamilyId {
         ensures { MatchOption result ((number < 1) ⊎ ((shape_of self).columns < number)) (λ c. (1 ≤ number) × (number ≤ (shape_of self).columns) × (c ≡ column_of self number)) }
     {
         let shape = self.shape();
-        if number < 1 || number > shape.columns {
+        if !(1..=shape.columns).contains(&number) {
             return None;
         }
-        Some(COLUMNS[shape.columns_before + (number as usize - 1)])
+        Some(COLUMNS[shape.columns_before + usize::from(number - 1)])
     }
-}
-
-fn within(least: u8, x: u8, greatest: u8) -> bool
-    ensures { Decides result ((least ≤ x) × (x ≤ greatest)) }
-{
-    least <= x && x <= greatest
 }
 
 impl Place {
@@ -58,12 +49,13 @@ impl Place {
         let Some(column) = self.family.column(self.column) else {
             return false;
         };
-        within(1, self.first, shape.last_first)
-            && within(shape.last_second.min(1), self.second, shape.last_second)
+        (1..=shape.last_first).contains(&self.first)
+            && (shape.last_second.min(1)..=shape.last_second).contains(&self.second)
             && self.octet < column.cells()
     }
 
     // The number of its cell.
+    #[tactic(auto, using(crate::proofs::PlaceFacts::cell_facts))]
     pub fn cell(self) -> Option<usize>
         ensures { MatchOption result (Stands self → ⊥) (λ n. Stands self × (n ≡ cell_of self) × (n < cell_count)) }
     {
@@ -71,13 +63,13 @@ impl Place {
             return None;
         }
         let shape = self.family.shape();
-        let rows = (self.second.saturating_sub(1) as usize) * shape.last_first as usize
-            + (self.first as usize - 1);
+        let rows = usize::from(self.second.saturating_sub(1)) * usize::from(shape.last_first)
+            + usize::from(self.first - 1);
         Some(
             shape.cells_before
                 + rows * shape.row_cells
-                + (self.column as usize - 1)
-                + self.octet as usize,
+                + usize::from(self.column - 1)
+                + usize::from(self.octet),
         )
     }
 }
@@ -86,29 +78,24 @@ impl Place {
 fn family_with(cell: usize) -> Option<FamilyId>
     ensures { MatchOption result (cell_count ≤ cell) (λ f. ((shape_of f).cells_before ≤ cell) × (cell < cells_end f)) }
 {
-    if cell < 608 {
-        Some(FamilyId::Phase)
-    } else if cell < 1248 {
-        Some(FamilyId::VehicleDetector)
-    } else if cell < 1280 {
-        Some(FamilyId::PedestrianDetector)
-    } else if cell < 1408 {
-        Some(FamilyId::Pattern)
-    } else if cell < 2176 {
-        Some(FamilyId::Split)
-    } else if cell < 2272 {
-        Some(FamilyId::Action)
-    } else if cell < CELLS {
-        Some(FamilyId::Sequence)
-    } else {
-        None
+    match cell {
+        ..608 => Some(FamilyId::Phase),
+        ..1248 => Some(FamilyId::VehicleDetector),
+        ..1280 => Some(FamilyId::PedestrianDetector),
+        ..1408 => Some(FamilyId::Pattern),
+        ..2176 => Some(FamilyId::Split),
+        ..2272 => Some(FamilyId::Action),
+        ..CELLS => Some(FamilyId::Sequence),
+        _ => None,
     }
 }
 
-#[derive(Clone, Copy)]
-struct Indices {
-    first: u8,
-    second: u8,
+// The indices of a row. `second` is 0 where the family has one index: no `Option`, which is no plainer, since an address has
+// a 0 there too.
+#[derive(Clone, Copy, Debug, PartialEq, Eq)]
+pub struct Indices {
+    pub first: u8,
+    pub second: u8,
 }
 
 // The indices of a family's row, counted from 0.
@@ -125,14 +112,14 @@ fn indices_of(family: FamilyId, row: usize) -> Indices
             second: 0,
         };
     }
-    let last = shape.last_first as usize;
+    let last = usize::from(shape.last_first);
     Indices {
         first: (row % last + 1) as u8,
         second: (row / last + 1) as u8,
     }
 }
 
-#[derive(Clone, Copy)]
+#[derive(Clone, Copy, Debug, PartialEq, Eq)]
 struct InRow {
     column: u8,
     octet: u8,
@@ -145,7 +132,7 @@ fn in_row(family: FamilyId, at: usize) -> InRow
     ensures octet { result.octet < cells_of (column_of family result.column) }
     ensures at { (result.column - 1) + result.octet ≡ at }
 {
-    let last = family.shape().columns as usize;
+    let last = usize::from(family.shape().columns);
     if at < last {
         return InRow {
             column: (at + 1) as u8,
@@ -159,6 +146,7 @@ fn in_row(family: FamilyId, at: usize) -> InRow
 }
 
 // Where the cell of this number stands.
+#[tactic(auto, using(crate::proofs::PlaceFacts::cell_facts))]
 pub fn place_of(cell: usize) -> Option<Place>
     ensures { MatchOption result (cell_count ≤ cell) (λ p. Stands p × (cell_of p ≡ cell)) }
 {
@@ -177,15 +165,12 @@ pub fn place_of(cell: usize) -> Option<Place>
 }
 
 // No two places have the same cell.
-pub fn each_cell_has_one_place() -> u8
+pub fn each_cell_has_one_place()
     ensures { OnePlace }
-{
-    0
-}
+{}
 
 // The memories' tops are those of the columns' widths.
-pub fn tops_follow_widths() -> u8
+#[tactic(auto, using(crate::proofs::WidthFacts::tops_by_width))]
+pub fn tops_follow_widths()
     ensures { TopsFollowWidths }
-{
-    0
-}
+{}

@@ -1,2 +1,3 @@
+pub mod ItemFacts
 pub mod GetFacts
 pub mod SetFacts

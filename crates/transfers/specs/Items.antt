@@ -1,6 +1,7 @@
 -- A request of items: a count n of 1 to 32, then n items. The body is what follows the operation's octet.
-use Rattle.std.specs.Prelude.{◌≡◌, ℕ, ◌+◌, ◌*◌, ◌<◌, ◌≤◌, ◌⊎◌, List, length, slice_index}
+use Rattle.std.specs.Prelude.{◌≡◌, ℕ, ◌+◌, ◌*◌, ◌<◌, ◌≤◌, ◌⊎◌, List, [], length, slice_index, slice_index_or}
 use Rattle.tables.specs.declared.address.Address.{Address}
+use Rattle.tables.specs.Places.{address_from}
 use Rattle.transfers.specs.declared.refusal.Refusal.{Refusal}
 use Rattle.transfers.specs.declared.refusal.Refusal.TheVariants.{ItemCount, Missing, Over}
 
@@ -29,6 +30,10 @@ pub data Miscounted (size : ℕ) (body : List ℕ) (e : Refusal) : Type 0 where
   missing : Counted body → length body < 1 + count_in body * size → e ≡ Missing (1 + length body) → Miscounted size body e
   over : Counted body → 1 + count_in body * size < length body → e ≡ Over (2 + count_in body * size) → Miscounted size body e
 
+-- the number that two octets are, the high one first
+abbrev pub number_from : List ℕ → ℕ
+number_from os = slice_index os 0 * 256 + slice_index os 1
+
 -- the k-th address of the items
 abbrev pub address_at : List ℕ → ℕ → Address
 address_at body k =
@@ -38,6 +43,10 @@ address_at body k =
       first = slice_index body (1 + 4 * k + 2);
       second = slice_index body (1 + 4 * k + 3);
     }
+
+-- these are the addresses that a request's items begin with
+abbrev pub Addresses : List ℕ → List (List ℕ) → Type 0
+Addresses body xs = (k : ℕ) → k < length xs → address_from (slice_index_or xs k []) ≡ address_at body k
 
 -- the offset of its first octet in the request
 abbrev pub address_place : ℕ → ℕ

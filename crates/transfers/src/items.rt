@@ -1,8 +1,8 @@
-ghost use Rattle.std.specs.Prelude.{◌≡◌, ℕ, ◌+◌, ◌-◌, ◌*◌, ◌<◌, ◌≤◌, List, length, drop, MatchResult};
-ghost use Rattle.transfers.specs.Items.{Whole, Miscounted, address_at, sent_at, count_in};
+ghost use Rattle.std.specs.Prelude.{◌≡◌, ℕ, ◌+◌, ◌-◌, ◌*◌, ◌/◌, ◌<◌, ◌≤◌, List, [], length, drop, MatchResult, slice_index, slice_index_or};
+ghost use Rattle.tables.specs.Places.{address_from};
+ghost use Rattle.transfers.specs.Items.{Whole, Miscounted, number_from, address_at, sent_at};
 
 use super::refusal::Refusal;
-use tables::address::Address;
 
 // The octets of the items of a get or a set, each of `size` octets; the body is what follows the operation.
 pub fn items_of(body: &[u8], size: usize) -> Result<&[u8], Refusal>
@@ -12,8 +12,8 @@ pub fn items_of(body: &[u8], size: usize) -> Result<&[u8], Refusal>
     let [count, items @ ..] = body else {
         return Err(Refusal::Missing(1));
     };
-    let count = *count as usize;
-    if count < 1 || count > 32 {
+    let count = usize::from(*count);
+    if !(1..=32).contains(&count) {
         return Err(Refusal::ItemCount);
     }
     let wanted = count * size;
@@ -26,25 +26,22 @@ pub fn items_of(body: &[u8], size: usize) -> Result<&[u8], Refusal>
     Ok(items)
 }
 
-// The address of the item of this number, counted from 0.
-pub fn address_at(items: &[u8], item: usize) -> Address
-    requires { 4 * item + 4 ≤ length items.now }
-    ensures { (body : List ℕ) → items.now ≡ drop 1 body → result ≡ address_at body item }
+// The addresses that so many items begin with.
+pub fn addresses_in(items: &[u8], count: usize) -> &[[u8; 4]]
+    requires { 4 * count ≤ length items.now }
+    ensures count { length result.now ≡ count }
+    ensures each { (body : List ℕ) (k : ℕ) → items.now ≡ drop 1 body → k < count → address_from (slice_index_or result.now k []) ≡ address_at body k }
 {
-    let at = 4 * item;
-    Address {
-        id: items[at],
-        column: items[at + 1],
-        first: items[at + 2],
-        second: items[at + 3],
-    }
+    let (addresses, _) = items[..4 * count].as_chunks();
+    addresses
 }
 
-// The value of the item of this number, of `count` in all: two octets, the high one first.
-pub fn sent_at(items: &[u8], count: usize, item: usize) -> u16
-    requires { 4 * count + 2 * item + 2 ≤ length items.now }
-    ensures { (body : List ℕ) → items.now ≡ drop 1 body → result ≡ sent_at body count item }
+// The values behind the addresses of so many items.
+pub fn values_in(items: &[u8], count: usize) -> &[[u8; 2]]
+    requires { 4 * count ≤ length items.now }
+    ensures count { length result.now ≡ (length items.now - 4 * count) / 2 }
+    ensures each { (body : List ℕ) (k : ℕ) → items.now ≡ drop 1 body → 4 * count + 2 * k + 2 ≤ length items.now → number_from (slice_index_or result.now k []) ≡ sent_at body count k }
 {
-    let at = 4 * count + 2 * item;
-    items[at] as u16 * 256 + items[at + 1] as u16
+    let (values, _) = items[4 * count..].as_chunks();
+    values
 }

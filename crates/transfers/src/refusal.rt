@@ -1,8 +1,11 @@
 ghost use Rattle.std.specs.Prelude.{◌≡◌};
 ghost use Rattle.transfers.specs.Refusals.{number_of, layer_of, place_of};
+ghost use Rattle.transfers.specs.declared.refusal.Refusal.TheVariants.{Room};
+
+use lists::list::Full;
 
 // Why a call was turned away.
-#[derive(Clone, Copy)]
+#[derive(Clone, Copy, Debug, PartialEq, Eq)]
 pub enum Refusal {
     // a memory handed in has not the table's count of cells
     MemoryCount,
@@ -41,7 +44,7 @@ impl Refusal {
         }
     }
 
-    // Where in the request's layers the fault lies: 1 octets, 2 mode, 4 values; 0 where there is no reply.
+    // Where in the request's layers the fault lies: 1 octets, 2 mode, 4 values; 0, which no reply shows, where there is none.
     pub fn layer(self) -> u8
         ensures { result ≡ layer_of self }
     {
@@ -65,5 +68,14 @@ impl Refusal {
             Refusal::Missing(length) => length,
             Refusal::Over(at) | Refusal::NoNumber(at) | Refusal::NotAllowed(at) => at,
         }
+    }
+}
+
+// A work list that is full has not the room that a call needs.
+impl From<Full> for Refusal {
+    ghost from_gives = { λ _ e. e ≡ Room };
+
+    fn from(_full: Full) -> Refusal {
+        Self::Room
     }
 }

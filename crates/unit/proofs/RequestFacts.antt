@@ -1,11 +1,14 @@
 -- A request's octets taken apart, and its outcome laid into reply memory.
-use Rattle.std.proofs.Common.{◌≡◌, ℕ, ◌-◌, ◌<◌, ◌≤◌, false, ◌⊎◌, List, [], ◌∷◌, length, get_or, take, drop, Ok, Err, Result, sym, refl, ap, ◌∙◌, subst, ⊎_elim, arith, MatchResult}
+use Rattle.std.proofs.Common.{◌≡◌, ℕ, ◌-◌, ◌<◌, ◌≤◌, true, false, ◌⊎◌, List, [], ◌∷◌, length, get_or, take, drop, Ok, Err, Result, sym, refl, ap, ◌∙◌, subst, ⊎_elim, arith, MatchResult}
 use Rattle.std.proofs.lemmas.List.{take_rest, nil_from_length}
 use Rattle.transfers.specs.declared.refusal.Refusal.{Refusal}
 use Rattle.transfers.specs.declared.refusal.Refusal.TheVariants.{MemoryCount, Room, EmptyRequest, UnknownOperation, Mode, ItemCount, Missing, Over, NoNumber, NotAllowed}
 use Rattle.transfers.specs.Refusals.{number_of, unanswered}
 use Rattle.transfers.specs.Items.{Miscounted, count_in, address_place}
 use Rattle.transfers.specs.Items.Miscounted.{no_count, out_of_range, missing, over}
+use Rattle.replies.specs.declared.Reply.{Reply}
+use Rattle.replies.specs.Replies.{Fresh, Grew, SamePastRoom}
+use Rattle.replies.proofs.ReplyFacts.{grew_past}
 use Rattle.transfers.specs.Gets.{accepted, refused, Got, two_octets}
 use Rattle.transfers.specs.Gets.Got.{miscounted, nameless, values}
 use Rattle.transfers.specs.Sets.{ItemFault, SetTo}
@@ -13,8 +16,10 @@ use Rattle.transfers.specs.Sets.ItemFault.{nameless as item-nameless, not_allowe
 use Rattle.transfers.specs.Sets.SetTo.{miscounted as set-miscounted, faulty, taken}
 use Rattle.transfers.proofs.GetFacts.{length-octets}
 use Rattle.unit.specs.declared.operation.Operation.{Operation}
-use Rattle.unit.specs.Operations.{code_of}
+use Rattle.unit.specs.Operations.{code_of, takes_mode}
 use Rattle.memory.specs.Top.{cell_count}
+use Rattle.unit.specs.Steps.{Moment, moment, Answered, Does, Replied}
+use Rattle.unit.specs.Steps.Answered.{done}
 use Rattle.unit.specs.States.{SetHere}
 use Rattle.unit.specs.States.SetHere.{wrong_count, no_room, turned_away, done as set-done}
 
@@ -96,3 +101,21 @@ answered_number (Missing k) a n = ⊎_elim (λ x. omega arith) (λ x. omega arit
 answered_number (Over k) a n = ⊎_elim (λ x. omega arith) (λ x. omega arith) n
 answered_number (NoNumber k) a n = ⊎_elim (λ x. omega arith) (λ x. omega arith) n
 answered_number (NotAllowed k) a n = ⊎_elim (λ x. omega arith) (λ x. omega arith) n
+
+-- a reply of one octet leaves what stands past the room
+pub one_past : {b a : Reply} {x : ℕ} → Fresh b → Grew b a (x ∷ []) → SamePastRoom b a
+one_past f g = grew_past (omega (arith, g.wrote.len, f.empty)) f.room g
+
+-- what an operation that the octets name, in a mode that it takes, comes to
+pub did :
+    (p : Operation) (s t : Moment) (octets body : List ℕ) (r : Result (Unit {0}) Refusal) (b a : Reply)
+    → octets ≡ code_of p ∷ body → takes_mode p s.mode ≡ true
+    → Replied (λ o. Does p s body o t) r b a → Replied (λ o. Answered s octets o t) r b a
+did p s t octets body (Ok u) b a e m x = (x.0, done p body e m x.1, x.2, x.3)
+did p s t octets body (Err f) b a e m x = (done p body e m x.0, x.1)
+
+-- what is said of a moment holds where its cells are told otherwise
+pub moved :
+    {R D : Type 0} (P : Moment → Type 0) (rc : R → List ℕ) (dc : D → List ℕ) (x u : R) (y v : D) (m : ℕ)
+    → x ≡ u → y ≡ v → P (moment (rc u) (dc v) m) → P (moment (rc x) (dc y) m)
+moved P rc dc x u y v m e f p = subst (λ z. P (moment (rc z) (dc y) m)) (sym e) (subst (λ z. P (moment (rc u) (dc z) m)) (sym f) p)

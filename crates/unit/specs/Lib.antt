@@ -1,3 +1,4 @@
 pub mod Operations
 pub mod States
 pub mod Steps
+pub mod Calls

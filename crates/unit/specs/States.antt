@@ -6,12 +6,11 @@ use Rattle.transfers.specs.declared.refusal.Refusal.{Refusal}
 use Rattle.transfers.specs.declared.refusal.Refusal.TheVariants.{MemoryCount, Room}
 use Rattle.transfers.specs.Gets.{accepted, refused}
 use Rattle.transfers.specs.Sets.{SetTo}
-use Rattle.unit.specs.declared.states.Quiet.{Quiet}
-use Rattle.unit.specs.declared.states.Editing.{Editing}
+use Rattle.unit.specs.declared.states.State.{State}
 use Rattle.unit.specs.declared.states.Unopened.{Unopened}
 
 -- the running memory has become the factory table, and no edit is open
-pub record Started (before after : List ℕ) (q : Quiet) : Type 0 where
+pub record Started (before after : List ℕ) (q : State 0) : Type 0 where
   pub count : length before ≡ cell_count
   pub cells : after ≡ factory
   pub mode : q.mode ≡ 0
@@ -28,13 +27,13 @@ pub record BothCounts (r d : List ℕ) : Type 0 where
   pub draft : length d ≡ cell_count
 
 -- the draft has become the running table
-pub record Opened (running before after : List ℕ) (e : Editing) : Type 0 where
+pub record Opened (running before after : List ℕ) (e : State 1) : Type 0 where
   pub counts : BothCounts running before
   pub draft : after ≡ running
   pub mode : e.mode ≡ 1
 
 -- a count is wrong, and nothing changed
-pub record NotOpened (q : Quiet) (running before after : List ℕ) (u : Unopened) : Type 0 where
+pub record NotOpened (q : State 0) (running before after : List ℕ) (u : Unopened) : Type 0 where
   pub counts : BothCounts running before → ⊥
   pub draft : after ≡ before
   pub state : u.state ≡ q

@@ -1,8 +1,10 @@
 -- The unit between calls, its starts, and what one request does.
-use Rattle.std.specs.Prelude.{◌≡◌, ℕ, ◌≤◌, true, false, cond, List, [], ◌∷◌, length, ◌≢◌}
+use Rattle.std.specs.Prelude.{◌≡◌, ℕ, ◌≤◌, true, false, cond, List, [], ◌∷◌, length, Result, MatchResult, ◌≢◌}
 use Rattle.memory.specs.Top.{cell_count}
 use Rattle.tables.specs.Factory.{factory}
-use Rattle.replies.specs.Replies.{reply_room, padded}
+use Rattle.replies.specs.declared.Reply.{Reply}
+use Rattle.replies.specs.Replies.{Grew, reply_room, padded}
+use Rattle.transfers.specs.declared.refusal.Refusal.{Refusal}
 use Rattle.transfers.specs.declared.refusal.Refusal.TheVariants.{MemoryCount, Room, EmptyRequest, UnknownOperation, Mode, Over}
 use Rattle.transfers.specs.Refusals.{number_of, unanswered, refusal_octets}
 use Rattle.transfers.specs.Gets.{Outcome, accepted, refused, Got}
@@ -79,6 +81,13 @@ pub data Opens (s : Moment) (body : List ℕ) (o : Outcome) (t : Moment) : Type 
 pub data Abandons (s : Moment) (body : List ℕ) (o : Outcome) (t : Moment) : Type 0 where
   over : Followed s body o t → Abandons s body o t
   abandoned : AllAlone body o → t.running ≡ s.running → t.draft ≡ s.draft → t.mode ≡ 0 → Abandons s body o t
+
+-- what a call that answers a request hands back: its outcome, and an accepted one's octets in the reply
+abbrev pub Replied : (Outcome → Type 0) → Result (Unit {0}) Refusal → Reply → Reply → Type 0
+Replied Is r before after =
+    MatchResult r
+    (λ _. (os : List ℕ) × Is (accepted os) × Grew before after os × (length os ≤ reply_room))
+    (λ e. Is (refused e) × (unanswered e ≡ false))
 
 -- what each operation does; the body is what follows its octet
 abbrev pub Does : Operation → Moment → List ℕ → Outcome → Moment → Type 0

@@ -2,6 +2,7 @@
 #![tactic(auto)]
 
 pub mod answer;
+mod call;
 pub mod operation;
 mod operations;
 pub mod request;

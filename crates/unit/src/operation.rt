@@ -1,9 +1,10 @@
-ghost use Rattle.std.specs.Prelude.{◌≡◌, MatchOption, ◌≢◌};
-ghost use Rattle.unit.specs.declared.operation.Operation.{Operation};
-ghost use Rattle.unit.specs.Operations.{code_of, takes_mode};
+ghost use Rattle.std.specs.Prelude.{◌≡◌};
+ghost use Rattle.unit.specs.Operations.{Decodes, takes_mode};
+
+use transfers::refusal::Refusal;
 
 // What a request asks for, by its first octet.
-#[derive(Clone, Copy)]
+#[derive(Clone, Copy, Debug, PartialEq, Eq)]
 pub enum Operation {
     Get,
     Set,
@@ -11,21 +12,24 @@ pub enum Operation {
     Abandon,
 }
 
-impl Operation {
-    // The operation with this octet.
-    pub fn from_octet(octet: u8) -> Option<Operation>
-        ensures { MatchOption result ((o : Operation) → code_of o ≢ octet) (λ o. code_of o ≡ octet) }
-    {
+impl TryFrom<u8> for Operation {
+    type Error = Refusal;
+
+    ghost try_from_gives = { Decodes };
+
+    fn try_from(octet: u8) -> Result<Operation, Refusal> {
         match octet {
-            1 => Some(Operation::Get),
-            2 => Some(Operation::Set),
-            5 => Some(Operation::Open),
-            9 => Some(Operation::Abandon),
-            _ => None,
+            1 => Ok(Operation::Get),
+            2 => Ok(Operation::Set),
+            5 => Ok(Operation::Open),
+            9 => Ok(Operation::Abandon),
+            _ => Err(Refusal::UnknownOperation),
         }
     }
+}
 
-    // Whether it is taken in this mode.
+impl Operation {
+    // Whether it is taken in this mode, which C may hand in as any octet.
     pub fn takes_mode(self, mode: u8) -> bool
         ensures { result ≡ takes_mode self mode }
     {
@@ -33,7 +37,7 @@ impl Operation {
             Operation::Get => mode <= 2,
             Operation::Set => mode == 1,
             Operation::Open => mode == 0,
-            Operation::Abandon => mode == 1 || mode == 2,
+            Operation::Abandon => matches!(mode, 1 | 2),
         }
     }
 }

@@ -1,159 +1,142 @@
 // What each operation of a request does.
-ghost use Rattle.std.specs.Prelude.{◌≡◌, ℕ, ◌+◌, ◌-◌, ◌<◌, ◌≤◌, true, false, List, [], ◌∷◌, ◌++◌, length, take, drop, MatchOption, MatchResult, ◌≢◌};
-ghost use Rattle.replies.specs.Replies.{Wrote, reply_room};
-ghost use Rattle.transfers.specs.Refusals.{unanswered};
-ghost use Rattle.transfers.specs.Gets.{accepted, refused};
+ghost use Rattle.std.specs.Prelude.{◌≡◌, ◌≤◌, true, length, MatchOption, ◌≢◌};
+ghost use Rattle.replies.specs.Replies.{Fresh, SamePastRoom};
 ghost use Rattle.unit.specs.declared.operation.Operation.TheVariants.{Set, Open, Abandon};
 ghost use Rattle.unit.specs.Operations.{takes_mode};
-ghost use Rattle.unit.specs.Steps.{Abandons, Counts, Gets, Opens, Sets, moment};
+ghost use Rattle.unit.specs.Steps.{Abandons, Answered, Gets, Opens, Replied, Sets};
+ghost use Rattle.unit.specs.Calls.{Kept, Sound, here};
 
-use super::states::{Checked, Editing, Quiet, Unopened};
+use super::call::UnitCall;
+use super::operation::Operation;
+use super::states::{Checked, Editing, Quiet};
 use memory::ParameterMemory;
-use replies::{Position, put};
+use replies::Reply;
 use tables::work::StagedWrite;
 use transfers::get::get;
 use transfers::refusal::Refusal;
 
-// Answers a get, from the running table.
-pub fn get_request<R: ParameterMemory, D: ParameterMemory>(
-    mode: u8,
-    running: &mut R,
-    draft: &mut D,
-    body: &[u8],
-    reply: &mut [u8],
-    position: &mut Position,
-) -> Result<u8, Refusal>
-    requires sound { R.ParameterMemory.sound running.old × D.ParameterMemory.sound draft.old }
-    requires counts { Counts (moment (R.ParameterMemory.cells running.old) (D.ParameterMemory.cells draft.old) mode) }
-    requires start { position.old.length ≡ 0 }
-    requires long { reply_room ≤ length reply.old }
-    ensures sound { R.ParameterMemory.sound running.new × D.ParameterMemory.sound draft.new }
-    ensures running_kept { R.ParameterMemory.kept running.new ≡ R.ParameterMemory.kept running.old }
-    ensures draft_kept { D.ParameterMemory.kept draft.new ≡ D.ParameterMemory.kept draft.old }
-    ensures outcome { MatchResult result
-        (λ m. (os : List ℕ) × Gets (moment (R.ParameterMemory.cells running.old) (D.ParameterMemory.cells draft.old) mode) body.now (accepted os) (moment (R.ParameterMemory.cells running.new) (D.ParameterMemory.cells draft.new) m) × Wrote reply.old 0 reply.new position.new.length os × (length os ≤ reply_room))
-        (λ e. Gets (moment (R.ParameterMemory.cells running.old) (D.ParameterMemory.cells draft.old) mode) body.now (refused e) (moment (R.ParameterMemory.cells running.new) (D.ParameterMemory.cells draft.new) mode) × (position.new.length ≡ 0) × (unanswered e ≡ false)) }
-    ensures later { drop reply_room reply.new ≡ drop reply_room reply.old }
-{
-    get(running, body, reply, position)?;
-    Ok(mode)
-}
-
-// Has the draft take a set's items.
-pub fn set_request<R: ParameterMemory, D: ParameterMemory>(
-    mode: u8,
-    running: &mut R,
-    draft: &mut D,
-    body: &[u8],
-    writes: &mut [StagedWrite],
-    reply: &mut [u8],
-    position: &mut Position,
-) -> Result<u8, Refusal>
-    requires sound { R.ParameterMemory.sound running.old × D.ParameterMemory.sound draft.old }
-    requires counts { Counts (moment (R.ParameterMemory.cells running.old) (D.ParameterMemory.cells draft.old) mode) }
-    requires start { position.old.length ≡ 0 }
-    requires long { reply_room ≤ length reply.old }
-    requires room { 1024 ≤ length writes.old }
-    requires taken { takes_mode Set mode ≡ true }
-    ensures sound { R.ParameterMemory.sound running.new × D.ParameterMemory.sound draft.new }
-    ensures running_kept { R.ParameterMemory.kept running.new ≡ R.ParameterMemory.kept running.old }
-    ensures draft_kept { D.ParameterMemory.kept draft.new ≡ D.ParameterMemory.kept draft.old }
-    ensures outcome { MatchResult result
-        (λ m. (os : List ℕ) × Sets (moment (R.ParameterMemory.cells running.old) (D.ParameterMemory.cells draft.old) mode) body.now (accepted os) (moment (R.ParameterMemory.cells running.new) (D.ParameterMemory.cells draft.new) m) × Wrote reply.old 0 reply.new position.new.length os × (length os ≤ reply_room))
-        (λ e. Sets (moment (R.ParameterMemory.cells running.old) (D.ParameterMemory.cells draft.old) mode) body.now (refused e) (moment (R.ParameterMemory.cells running.new) (D.ParameterMemory.cells draft.new) mode) × (position.new.length ≡ 0) × (unanswered e ≡ false)) }
-    ensures later { drop reply_room reply.new ≡ drop reply_room reply.old }
-{
-    let Some(editing) = Editing::from_mode(mode) else {
-        return Err(Refusal::Mode);
-    };
-    let set = editing.set(draft, body, writes);
-    let mode = editing.into_mode();
-    set?;
-    put(reply, position, 0);
-    Ok(mode)
-}
-
-// Opens an edit.
-pub fn open_request<R: ParameterMemory, D: ParameterMemory>(
-    mode: u8,
-    running: &mut R,
-    draft: &mut D,
-    body: &[u8],
-    reply: &mut [u8],
-    position: &mut Position,
-) -> Result<u8, Refusal>
-    requires sound { R.ParameterMemory.sound running.old × D.ParameterMemory.sound draft.old }
-    requires counts { Counts (moment (R.ParameterMemory.cells running.old) (D.ParameterMemory.cells draft.old) mode) }
-    requires start { position.old.length ≡ 0 }
-    requires long { reply_room ≤ length reply.old }
-    requires taken { takes_mode Open mode ≡ true }
-    ensures sound { R.ParameterMemory.sound running.new × D.ParameterMemory.sound draft.new }
-    ensures running_kept { R.ParameterMemory.kept running.new ≡ R.ParameterMemory.kept running.old }
-    ensures draft_kept { D.ParameterMemory.kept draft.new ≡ D.ParameterMemory.kept draft.old }
-    ensures outcome { MatchResult result
-        (λ m. (os : List ℕ) × Opens (moment (R.ParameterMemory.cells running.old) (D.ParameterMemory.cells draft.old) mode) body.now (accepted os) (moment (R.ParameterMemory.cells running.new) (D.ParameterMemory.cells draft.new) m) × Wrote reply.old 0 reply.new position.new.length os × (length os ≤ reply_room))
-        (λ e. Opens (moment (R.ParameterMemory.cells running.old) (D.ParameterMemory.cells draft.old) mode) body.now (refused e) (moment (R.ParameterMemory.cells running.new) (D.ParameterMemory.cells draft.new) mode) × (position.new.length ≡ 0) × (unanswered e ≡ false)) }
-    ensures later { drop reply_room reply.new ≡ drop reply_room reply.old }
-{
-    if !body.is_empty() {
-        return Err(Refusal::Over(1));
-    }
-    let Some(quiet) = Quiet::from_mode(mode) else {
-        return Err(Refusal::Mode);
-    };
-    match quiet.open(running, draft) {
-        Ok(editing) => {
-            put(reply, position, 0);
-            Ok(editing.into_mode())
-        }
-        Err(Unopened { state, refusal }) => {
-            let _ = state.into_mode();
-            Err(refusal)
-        }
-    }
-}
-
-// The mode after an edit is given up.
-fn abandoned(mode: u8) -> Option<u8>
-    ensures { MatchOption result (takes_mode Abandon mode ≢ true) (λ m. m ≡ 0) }
+// The state after an edit is given up.
+fn abandoned(mode: u8) -> Option<Quiet>
+    ensures { MatchOption result (takes_mode Abandon mode ≢ true) (λ _. takes_mode Abandon mode ≡ true) }
 {
     if let Some(editing) = Editing::from_mode(mode) {
-        return Some(editing.abandon().into_mode());
+        return Some(editing.abandon());
     }
-    match Checked::from_mode(mode) {
-        Some(checked) => Some(checked.abandon().into_mode()),
-        None => None,
-    }
+    let checked = Checked::from_mode(mode)?;
+    Some(checked.abandon())
 }
 
-// Gives an edit up.
-pub fn abandon_request<R: ParameterMemory, D: ParameterMemory>(
-    mode: u8,
-    running: &mut R,
-    draft: &mut D,
-    body: &[u8],
-    reply: &mut [u8],
-    position: &mut Position,
-) -> Result<u8, Refusal>
-    requires sound { R.ParameterMemory.sound running.old × D.ParameterMemory.sound draft.old }
-    requires counts { Counts (moment (R.ParameterMemory.cells running.old) (D.ParameterMemory.cells draft.old) mode) }
-    requires start { position.old.length ≡ 0 }
-    requires long { reply_room ≤ length reply.old }
-    requires taken { takes_mode Abandon mode ≡ true }
-    ensures sound { R.ParameterMemory.sound running.new × D.ParameterMemory.sound draft.new }
-    ensures running_kept { R.ParameterMemory.kept running.new ≡ R.ParameterMemory.kept running.old }
-    ensures draft_kept { D.ParameterMemory.kept draft.new ≡ D.ParameterMemory.kept draft.old }
-    ensures outcome { MatchResult result
-        (λ m. (os : List ℕ) × Abandons (moment (R.ParameterMemory.cells running.old) (D.ParameterMemory.cells draft.old) mode) body.now (accepted os) (moment (R.ParameterMemory.cells running.new) (D.ParameterMemory.cells draft.new) m) × Wrote reply.old 0 reply.new position.new.length os × (length os ≤ reply_room))
-        (λ e. Abandons (moment (R.ParameterMemory.cells running.old) (D.ParameterMemory.cells draft.old) mode) body.now (refused e) (moment (R.ParameterMemory.cells running.new) (D.ParameterMemory.cells draft.new) mode) × (position.new.length ≡ 0) × (unanswered e ≡ false)) }
-    ensures later { drop reply_room reply.new ≡ drop reply_room reply.old }
-{
-    if !body.is_empty() {
-        return Err(Refusal::Over(1));
+// The clauses of the operations are the same but for the relation that they name: a clause has no parameter to take it from.
+impl<R: ParameterMemory, D: ParameterMemory> UnitCall<'_, '_, R, D> {
+    // Answers a get, from the running table.
+    fn get(&mut self, body: &[u8], reply: &mut Reply) -> Result<(), Refusal>
+        requires sound { Sound R.ParameterMemory D.ParameterMemory self.old }
+        requires fresh { Fresh reply.old }
+        ensures sound { Sound R.ParameterMemory D.ParameterMemory self.new }
+        ensures kept { Kept R.ParameterMemory D.ParameterMemory self.old self.new }
+        ensures past { SamePastRoom reply.old reply.new }
+        ensures outcome { Replied (λ o. Gets (here R.ParameterMemory D.ParameterMemory self.old) body.now o (here R.ParameterMemory D.ParameterMemory self.new)) result reply.old reply.new }
+    {
+        get(self.running, body, reply)
     }
-    let Some(mode) = abandoned(mode) else {
-        return Err(Refusal::Mode);
-    };
-    put(reply, position, 0);
-    Ok(mode)
+
+    // Has the draft take a set's items.
+    fn set(
+        &mut self,
+        body: &[u8],
+        writes: &mut [StagedWrite],
+        reply: &mut Reply,
+    ) -> Result<(), Refusal>
+        requires sound { Sound R.ParameterMemory D.ParameterMemory self.old }
+        requires fresh { Fresh reply.old }
+        requires room { 1024 ≤ length writes.old }
+        requires taken { takes_mode Set self.old.mode ≡ true }
+        ensures sound { Sound R.ParameterMemory D.ParameterMemory self.new }
+        ensures kept { Kept R.ParameterMemory D.ParameterMemory self.old self.new }
+        ensures past { SamePastRoom reply.old reply.new }
+        ensures outcome { Replied (λ o. Sets (here R.ParameterMemory D.ParameterMemory self.old) body.now o (here R.ParameterMemory D.ParameterMemory self.new)) result reply.old reply.new }
+    {
+        let Some(editing) = Editing::from_mode(self.mode) else {
+            return Err(Refusal::Mode);
+        };
+        let set = editing.set(self.draft, body, writes);
+        self.mode = editing.into_mode();
+        set?;
+        reply.put(0);
+        Ok(())
+    }
+
+    // Opens an edit.
+    fn open(&mut self, body: &[u8], reply: &mut Reply) -> Result<(), Refusal>
+        requires sound { Sound R.ParameterMemory D.ParameterMemory self.old }
+        requires fresh { Fresh reply.old }
+        requires taken { takes_mode Open self.old.mode ≡ true }
+        ensures sound { Sound R.ParameterMemory D.ParameterMemory self.new }
+        ensures kept { Kept R.ParameterMemory D.ParameterMemory self.old self.new }
+        ensures past { SamePastRoom reply.old reply.new }
+        ensures outcome { Replied (λ o. Opens (here R.ParameterMemory D.ParameterMemory self.old) body.now o (here R.ParameterMemory D.ParameterMemory self.new)) result reply.old reply.new }
+    {
+        if !body.is_empty() {
+            return Err(Refusal::Over(1));
+        }
+        let Some(quiet) = Quiet::from_mode(self.mode) else {
+            return Err(Refusal::Mode);
+        };
+        let editing = quiet.open(self.running, self.draft)?;
+        self.mode = editing.into_mode();
+        reply.put(0);
+        Ok(())
+    }
+
+    // Gives an edit up.
+    fn abandon(&mut self, body: &[u8], reply: &mut Reply) -> Result<(), Refusal>
+        requires sound { Sound R.ParameterMemory D.ParameterMemory self.old }
+        requires fresh { Fresh reply.old }
+        requires taken { takes_mode Abandon self.old.mode ≡ true }
+        ensures sound { Sound R.ParameterMemory D.ParameterMemory self.new }
+        ensures kept { Kept R.ParameterMemory D.ParameterMemory self.old self.new }
+        ensures past { SamePastRoom reply.old reply.new }
+        ensures outcome { Replied (λ o. Abandons (here R.ParameterMemory D.ParameterMemory self.old) body.now o (here R.ParameterMemory D.ParameterMemory self.new)) result reply.old reply.new }
+    {
+        if !body.is_empty() {
+            return Err(Refusal::Over(1));
+        }
+        let Some(quiet) = abandoned(self.mode) else {
+            return Err(Refusal::Mode);
+        };
+        self.mode = quiet.into_mode();
+        reply.put(0);
+        Ok(())
+    }
+
+    // What the request's octets come to; an accepted request's reply is put.
+    pub fn answer(
+        &mut self,
+        octets: &[u8],
+        writes: &mut [StagedWrite],
+        reply: &mut Reply,
+    ) -> Result<(), Refusal>
+        requires sound { Sound R.ParameterMemory D.ParameterMemory self.old }
+        requires fresh { Fresh reply.old }
+        requires room { 1024 ≤ length writes.old }
+        ensures sound { Sound R.ParameterMemory D.ParameterMemory self.new }
+        ensures kept { Kept R.ParameterMemory D.ParameterMemory self.old self.new }
+        ensures past { SamePastRoom reply.old reply.new }
+        ensures outcome { Replied (λ o. Answered (here R.ParameterMemory D.ParameterMemory self.old) octets.now o (here R.ParameterMemory D.ParameterMemory self.new)) result reply.old reply.new }
+    {
+        let [code, body @ ..] = octets else {
+            return Err(Refusal::EmptyRequest);
+        };
+        let operation = Operation::try_from(*code)?;
+        if !operation.takes_mode(self.mode) {
+            return Err(Refusal::Mode);
+        }
+        // No plainer by closures: each operation takes its own of what was handed in.
+        match operation {
+            Operation::Get => self.get(body, reply),
+            Operation::Set => self.set(body, writes, reply),
+            Operation::Open => self.open(body, reply),
+            Operation::Abandon => self.abandon(body, reply),
+        }
+    }
 }

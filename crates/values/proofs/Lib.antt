@@ -1,4 +1,5 @@
 pub mod Parts
+pub mod Readers
 pub mod Number
 pub mod Table
 pub mod PhaseLists

@@ -1,6 +1,5 @@
 -- A list of phases: what its octets come to.
 use Rattle.std.proofs.Common.{◌≡◌, ℕ, zero, suc, ◌-◌, ◌≤◌, List, ◌++◌, length, take, drop, replicate, sym, refl, ap, ◌∙◌, subst, arith, length-append, take_at, drop_at}
-use native.Mathlib.Nat.{sub-zero}
 use lib.ListN.{length-replicate}
 use Rattle.std.proofs.lemmas.Bool.{leb-true, and_parts}
 use Rattle.tables.proofs.WidthFacts.{stored_allowed}
@@ -8,10 +7,12 @@ use Rattle.std.proofs.lemmas.List.{take-replicate, drop-replicate, take-append-d
 use Rattle.tables.specs.declared.columns.Column.{Column}
 use Rattle.values.specs.declared.phases.PhaseList.{PhaseList}
 use Rattle.values.specs.declared.Fault.{Fault}
-use Rattle.values.specs.Reading.{at_second, Decided, Written, Near, each_octets}
+use Rattle.values.specs.declared.reader.Reader.{Reader}
+use Rattle.values.specs.Reading.{Took, at_second, Decided, Written, Near, each_octets}
 use Rattle.values.specs.Numbers.{number, numbers, octets, size, sizes, sent}
 use Rattle.values.specs.Lists.{length_column, listing, listed, Padded, phases, ListAllowed, ListFits, list_octets}
 use Rattle.values.proofs.Parts.{then_decided, then-written, then_near, each-length, each-written, held_decided, held-written, held_near, near_more}
+use Rattle.values.proofs.Readers.{took_on, fault_on}
 use Rattle.values.proofs.Number.{number_decided, number-written, number_near, octets-size}
 use Rattle.values.proofs.Table.{numbers_decided, numbers_near, numbers_short}
 
@@ -60,24 +61,28 @@ module _ (c : Column) where
       omega (arith, length-append (octets length_column l.len) (each_octets octets (replicate l.len c) (take l.len l.phases)), octets-size length_column l.len, numbers_short (replicate l.len c) (take l.len l.phases), sizes_same l.len e, f.0)
 
   -- the first octets' columns
-  pub columns_are : (n : ℕ) → n ≤ 16 → take (n - 0) (replicate 16 c) ≡ replicate n c
-  columns_are n few = ap (λ m. take m (replicate 16 c)) (sub-zero n) ∙ take-replicate n 16 c few
+  pub columns_are : (n : ℕ) → n ≤ 16 → take n (replicate 16 c) ≡ replicate n c
+  columns_are n few = take-replicate n 16 c few
 
-  pub room_for : (n : ℕ) → n ≤ 16 → size c ≡ 1 → sizes (take (n - 0) (replicate 16 c)) ≤ 16
+  pub room_for : (n : ℕ) → n ≤ 16 → size c ≡ 1 → sizes (take n (replicate 16 c)) ≤ 16
   room_for n few e = omega (arith, ap sizes (columns_are n few), sizes_same n e)
 
-  module _ (s : List ℕ) (from len mid : ℕ) (k : (number length_column).Means s from len mid) where
-    zeros-are : drop (len - 0) (replicate {A = ℕ} 16 0) ≡ replicate (16 - len) 0
-    zeros-are = ap (λ n. drop n (replicate {A = ℕ} 16 0)) (sub-zero len) ∙ drop-replicate len 16 0
+  module _ (b a : Reader) (len : ℕ) (h : Took (number length_column) b a len) where
+    pub list_read : (xs : List ℕ) (z : Reader) → Took (numbers (take len (replicate 16 c))) a z xs
+        → Took (phases c) b z (record { len = len; phases = xs ++ drop len (replicate 16 0) })
+    list_read xs z t =
+        let s = b.octets.now in
+        let few = length_few s b.at len a.at h.means in
+        let two = took_on b h.same (subst (λ cs. Took (numbers cs) a z xs) (columns_are len few) t) in
+        let f = made_fits len xs (each-length number (replicate len c) s a.at xs z.at two.means ∙ length-replicate len c) few in
+        record {
+          same = two.same;
+          means =
+              subst (λ z'. (phases c).Means s b.at (record { len = len; phases = xs ++ z' }) z.at) (sym (drop-replicate len 16 0))
+              (subst (λ p. (listing c).Means s b.at p z.at) (sym f.0) (record { mid = a.at; one = h.means; two = two.means }), f.1);
+        }
 
-    pub list_read : (xs : List ℕ) (end : ℕ) → (numbers (take (len - 0) (replicate 16 c))).Means s mid xs end
-        → (phases c).Means s from (record { len = len; phases = xs ++ drop (len - 0) (replicate 16 0) }) end
-    list_read xs end h =
-        let few = length_few s from len mid k in
-        let two : (numbers (replicate len c)).Means s mid xs end = subst (λ cs. (numbers cs).Means s mid xs end) (columns_are len few) h in
-        let f = made_fits len xs (each-length number (replicate len c) s mid xs end two ∙ length-replicate len c) few in
-        subst (λ z. (phases c).Means s from (record { len = len; phases = xs ++ z }) end) (sym zeros-are)
-        (subst (λ p. (listing c).Means s from p end) (sym f.0) (record { mid = mid; one = k; two = two }), f.1)
-
-    pub list-faulty : (w : Fault) → (numbers (take (len - 0) (replicate 16 c))).Faults s mid w → (phases c).Faults s from w
-    list-faulty w f = at_second len mid k (subst (λ cs. (numbers cs).Faults s mid w) (columns_are len (length_few s from len mid k)) f)
+    pub list-faulty : (w : Fault) → (numbers (take len (replicate 16 c))).Faults a.octets.now a.at w → (phases c).Faults b.octets.now b.at w
+    list-faulty w f =
+        at_second len a.at h.means
+        (fault_on (numbers (replicate len c)) b a h.same w (subst (λ cs. (numbers cs).Faults a.octets.now a.at w) (columns_are len (length_few b.octets.now b.at len a.at h.means)) f))

@@ -1,6 +1,6 @@
 -- What octets mean, item by item, and what is wrong with them.
 use Rattle.std.specs.Prelude.{◌≡◌, ℕ, ◌+◌, ◌<◌, ◌≤◌, ◌⊎◌, List, [], ◌∷◌, ◌++◌, length, Ok, Err, Result, slice_index}
-use Rattle.values.specs.declared.Taken.{Taken}
+use Rattle.values.specs.declared.reader.Reader.{Reader}
 use Rattle.values.specs.declared.Fault.{Fault}
 use Rattle.values.specs.declared.Fault.TheVariants.{NotInTable, CountDiffers, NotAllowed, Over, Missing}
 
@@ -17,10 +17,15 @@ place_in n (NotAllowed k) = k
 place_in n (Over k) = k
 place_in n Missing = n
 
--- what a function that reads answers: the row and the offset after it, or the fault
-abbrev pub Parsed : {R : Type 0} → Reading R → List ℕ → ℕ → Result (Taken R) Fault → Type 0
-Parsed rd s i (Ok t) = (t.end ≤ length s) × rd.Means s i t.row t.end
-Parsed rd s i (Err w) = rd.Faults s i w
+-- the octets from one reader's place up to the other's mean this row
+pub record Took {R : Type 0} (rd : Reading R) (before after : Reader) (r : R) : Type 0 where
+  pub same : after.octets ≡ before.octets
+  pub means : rd.Means before.octets.now before.at r after.at
+
+-- what a function that reads answers: the row, and the reader behind its octets, or the fault
+abbrev pub Read : {R : Type 0} → Reading R → Reader → Reader → Result R Fault → Type 0
+Read rd before after (Ok r) = Took rd before after r
+Read rd before after (Err w) = rd.Faults before.octets.now before.at w
 
 -- one octet that stands for one of A; any other is at fault
 pub record ItemMeans {A : Type 0} (Is : A → ℕ → Type 0) (s : List ℕ) (i : ℕ) (a : A) (j : ℕ) : Type 0 where

@@ -7,9 +7,10 @@ ghost use Rattle.values.specs.Reading.{place_in};
 
 pub mod numbers;
 pub mod phases;
+pub mod reader;
 
 // What is wrong with octets, and the offset of the item at fault.
-#[derive(Clone, Copy)]
+#[derive(Clone, Copy, Debug, PartialEq, Eq)]
 pub enum Fault {
     // a data type, ID, index or quantity that the table has not
     NotInTable(usize),
@@ -21,13 +22,6 @@ pub enum Fault {
     Over(usize),
     // octets are missing
     Missing,
-}
-
-// What was read, and the offset after it.
-#[derive(Clone, Copy)]
-pub struct Taken<R> {
-    pub row: R,
-    pub end: usize,
 }
 
 impl Fault {

@@ -1,79 +1,77 @@
-ghost use Rattle.std.specs.Prelude.{◌≡◌, ℕ, ◌+◌, ◌<◌, ◌≤◌, length, MatchResult};
-ghost use Rattle.replies.specs.Replies.{Wrote};
-ghost use Rattle.values.specs.Reading.{Parsed, EachOf, each_octets};
+ghost use Rattle.std.specs.Prelude.{◌≡◌, ◌+◌, ◌≤◌, length, MatchResult};
+ghost use Rattle.replies.specs.Replies.{Grew};
+ghost use Rattle.values.specs.Reading.{Took, Read, EachOf, each_octets};
 ghost use Rattle.values.specs.Numbers.{number, numbers, Fits, octets, size, sizes};
 
-use super::{Fault, Taken};
-use replies::{Position, put, put_number};
+use super::Fault;
+use super::reader::Reader;
+use replies::Reply;
 use tables::columns::Column;
 
-// A number as its column has it, at an offset.
-pub fn read_number(column: Column, s: &[u8], from: usize) -> Result<Taken<u16>, Fault>
-    requires { from ≤ length s.now }
-    ensures { Parsed (number column) s.now from result }
-{
-    let size = if column.width == 2 { 2 } else { 1 };
-    if s.len() - from < size {
-        return Err(Fault::Missing);
+impl Reader<'_> {
+    // A number as its column has it.
+    pub fn number(&mut self, column: Column) -> Result<u16, Fault>
+        ensures { Read (number column) self.old self.new result }
+    {
+        let from = self.at;
+        let sent = if column.width == 2 {
+            let [high, low, ..] = self.rest() else {
+                return Err(Fault::Missing);
+            };
+            self.at += 2;
+            u16::from_be_bytes([*high, *low])
+        } else {
+            let [octet, ..] = self.rest() else {
+                return Err(Fault::Missing);
+            };
+            self.at += 1;
+            u16::from(*octet)
+        };
+        column.stored(sent).ok_or(Fault::NotAllowed(from))
     }
-    let sent = if column.width == 2 {
-        s[from] as u16 * 256 + s[from + 1] as u16
-    } else {
-        s[from] as u16
-    };
-    match column.stored(sent) {
-        Some(row) => Ok(Taken {
-            row,
-            end: from + size,
-        }),
-        None => Err(Fault::NotAllowed(from)),
-    }
-}
 
-// A number for each column, one after the other; the offset after them.
-pub fn read_numbers(
-    columns: &[Column],
-    s: &[u8],
-    from: usize,
-    out: &mut [u16],
-) -> Result<usize, Fault>
-    requires from { from ≤ length s.now }
-    requires room { length out.old ≡ length columns.now }
-    ensures { MatchResult result (λ end. (end ≤ length s.now) × (numbers columns.now).Means s.now from out.new end) (λ w. (numbers columns.now).Faults s.now from w) }
-{
-    let mut pos = from;
-    for i in 0..columns.len() {
-        match read_number(columns[i], s, pos) {
-            Ok(taken) => {
-                out[i] = taken.row;
-                pos = taken.end;
-            }
-            Err(fault) => return Err(fault),
+    // A number for each column, one after the other, into fixed memory: how many is known at run time alone.
+    pub fn numbers_into(&mut self, columns: &[Column], out: &mut [u16]) -> Result<(), Fault>
+        requires { length out.old ≡ length columns.now }
+        ensures { MatchResult result (λ _. Took (numbers columns.now) self.old self.new out.new) (λ w. (numbers columns.now).Faults self.old.octets.now self.old.at w) }
+    {
+        // by index: a zip over `iter_mut` was tried, and the proof did not close
+        for (i, column) in columns.iter().enumerate() {
+            out[i] = self.number(*column)?;
         }
+        Ok(())
     }
-    Ok(pos)
+
+    // The same for a known number of columns.
+    pub fn numbers<const N: usize>(&mut self, columns: &[Column; N]) -> Result<[u16; N], Fault>
+        ensures { Read (numbers columns.now) self.old self.new result }
+    {
+        let mut out = [0u16; N];
+        self.numbers_into(columns, &mut out)?;
+        Ok(out)
+    }
 }
 
 // Writes a number as its column has it.
-pub fn put_value(column: Column, value: u16, reply: &mut [u8], position: &mut Position)
-    requires room { position.old.length + size column ≤ length reply.old }
+pub fn put_value(column: Column, value: u16, reply: &mut Reply)
+    requires room { reply.old.position.now.length + size column ≤ length reply.old.octets.now }
     requires fits { Fits column value }
-    ensures { Wrote reply.old position.old.length reply.new position.new.length (octets column value) }
+    ensures { Grew reply.old reply.new (octets column value) }
 {
     if column.width == 2 {
-        put_number(reply, position, value)
+        reply.put_number(value)
     } else {
-        put(reply, position, value as u8)
+        reply.put(value as u8)
     }
 }
 
 // Writes a number for each column, one after the other.
-pub fn put_values(columns: &[Column], values: &[u16], reply: &mut [u8], position: &mut Position)
-    requires room { position.old.length + sizes columns.now ≤ length reply.old }
+pub fn put_values(columns: &[Column], values: &[u16], reply: &mut Reply)
+    requires room { reply.old.position.now.length + sizes columns.now ≤ length reply.old.octets.now }
     requires fits { EachOf Fits columns.now values.now }
-    ensures { Wrote reply.old position.old.length reply.new position.new.length (each_octets octets columns.now values.now) }
+    ensures { Grew reply.old reply.new (each_octets octets columns.now values.now) }
 {
-    for i in 0..columns.len() {
-        put_value(columns[i], values[i], reply, position);
+    for (column, value) in columns.iter().zip(values) {
+        put_value(*column, *value, reply);
     }
 }

@@ -1,12 +1,13 @@
-ghost use Rattle.std.specs.Prelude.{◌≡◌, ℕ, ◌+◌, ◌<◌, ◌≤◌, length};
-ghost use Rattle.replies.specs.Replies.{Wrote};
-ghost use Rattle.values.specs.Reading.{Parsed};
+ghost use Rattle.std.specs.Prelude.{◌≡◌, ◌+◌, ◌≤◌, length};
+ghost use Rattle.replies.specs.Replies.{Grew};
+ghost use Rattle.values.specs.Reading.{Read};
 ghost use Rattle.values.specs.Lists.{phases, ListFits, list_octets};
 ghost use Rattle.values.specs.Numbers.{size};
 
-use super::numbers::{put_value, put_values, read_number, read_numbers};
-use super::{Fault, Taken};
-use replies::Position;
+use super::Fault;
+use super::numbers::{put_value, put_values};
+use super::reader::Reader;
+use replies::Reply;
 use tables::columns::{Column, Kind};
 
 // A length is at most 16.
@@ -17,47 +18,34 @@ pub const LENGTH: Column = Column {
     kind: Kind::Number,
 };
 
-// Up to sixteen octets; the places past them hold 0.
-#[derive(Clone, Copy)]
+// Up to sixteen octets; the places past them hold 0. No vector of fixed room, which is no plainer: all seventeen cells are
+// staged, with the zeros. Its length is widened by `as`: `usize::from` was tried, and the proofs did not close.
+#[derive(Clone, Copy, Debug, PartialEq, Eq)]
 pub struct PhaseList {
     pub len: u16,
     pub phases: [u16; 16],
 }
 
-// A list of the column at an offset: its length, and then as many octets.
-pub fn read_list(column: Column, s: &[u8], from: usize) -> Result<Taken<PhaseList>, Fault>
-    requires { from ≤ length s.now }
-    ensures { Parsed (phases column) s.now from result }
-{
-    match read_number(LENGTH, s, from) {
-        Ok(length) => {
-            let len = length.row as usize;
-            let columns = [column; 16];
-            let mut phases = [0u16; 16];
-            match read_numbers(&columns[0..len], s, length.end, &mut phases[0..len]) {
-                Ok(end) => Ok(Taken {
-                    row: PhaseList {
-                        len: length.row,
-                        phases,
-                    },
-                    end,
-                }),
-                Err(fault) => Err(fault),
-            }
-        }
-        Err(fault) => Err(fault),
+impl Reader<'_> {
+    // A list of the column: its length, and then as many octets.
+    pub fn list(&mut self, column: Column) -> Result<PhaseList, Fault>
+        ensures { Read (phases column) self.old self.new result }
+    {
+        let len = self.number(LENGTH)?;
+        let mut phases = [0u16; 16];
+        self.numbers_into(&[column; 16][..len as usize], &mut phases[..len as usize])?;
+        Ok(PhaseList { len, phases })
     }
 }
 
 // Writes a list: its length, and then as many octets.
-pub fn put_list(column: Column, list: &PhaseList, reply: &mut [u8], position: &mut Position)
-    requires room { position.old.length + 17 ≤ length reply.old }
+pub fn put_list(column: Column, list: &PhaseList, reply: &mut Reply)
+    requires room { reply.old.position.now.length + 17 ≤ length reply.old.octets.now }
     requires narrow { size column ≡ 1 }
     requires fits { ListFits column list.now }
-    ensures { Wrote reply.old position.old.length reply.new position.new.length (list_octets column list.now) }
+    ensures { Grew reply.old reply.new (list_octets column list.now) }
 {
     let len = list.len as usize;
-    let columns = [column; 16];
-    put_value(LENGTH, list.len, reply, position);
-    put_values(&columns[0..len], &list.phases[0..len], reply, position);
+    put_value(LENGTH, list.len, reply);
+    put_values(&[column; 16][..len], &list.phases[..len], reply);
 }

@@ -1,22 +1,26 @@
-use Rattle.std.proofs.Common.{[], ◌∷◌, ◌++◌, refl, arith}
+use Rattle.std.proofs.Common.{[], ◌∷◌, ◌++◌, refl, sym, ◌∙◌, arith}
 use Rattle.values.specs.Reading.{bad, gone}
-use Rattle.headers.proofs.HeaderFacts.{one_octet, octet_faulty, octets_done}
+use Rattle.values.proofs.Readers.{each_read, each_wrong}
+use Rattle.headers.proofs.HeaderFacts.{marked, mark_taken, left_first, left_length}
 use Rattle.headers.proofs.read_exactly.Goals as goal
 
-pub returns-then-pos-block : goal.returns-then-pos-block
-returns-then-pos-block c =
-    octet_faulty c.args.octets.now c.args.block.now c.args.from c.loop-i.i c.loop-i.invariant.1.0 c.loop-i.pos _ c.loop-i-test.true (gone c.if-pos-block.true refl) c.loop-i.invariant.1.1
+pub returns-in_default : goal.returns-in_default
+returns-in_default c =
+    let a = c.loop-octet.reader in
+    let n = left_length a.octets.now c.rest.result.now a.at c.rest.ensures in
+    each_wrong marked c.args.octets.now 0 c.loop-octet.octet-index c.loop-octet.invariant.1 _ c.loop-octet-test.true (gone (omega arith) refl)
 
-pub returns-then-block-pos : goal.returns-then-block-pos
-returns-then-block-pos c =
-    octet_faulty c.args.octets.now c.args.block.now c.args.from c.loop-i.i c.loop-i.invariant.1.0 c.loop-i.pos _ c.loop-i-test.true (bad c.if-pos-block.false (λ u e. c.if-block-pos.true e) refl) c.loop-i.invariant.1.1
+pub returns-then-sent-octet : goal.returns-then-sent-octet
+returns-then-sent-octet c =
+    let a = c.loop-octet.reader in
+    let n = left_length a.octets.now c.rest.result.now a.at c.rest.ensures in
+    let x = left_first a.octets.now c.rest.result.now a.at c.rest.ensures in
+    each_wrong marked c.args.octets.now 0 c.loop-octet.octet-index c.loop-octet.invariant.1 _ c.loop-octet-test.true (bad (omega arith) (λ u e. c.if-sent-octet.true (x ∙ e)) refl)
 
-pub loop-i-preserved : goal.loop-i-preserved
-loop-i-preserved c =
-    let inv = c.loop-i.invariant.1 in
-    (omega arith, (inv.0 ++ tt ∷ [], one_octet c.args.octets.now c.args.block.now c.args.from c.loop-i.i inv.0 c.loop-i.pos c.loop-i-test.true c.if-pos-block.false c.if-block-pos.false inv.1))
-
-pub returns : goal.returns
-returns c =
-    let inv = c.loop-i.invariant.1 in
-    (c.loop-i.invariant.0, (inv.0, octets_done c.args.octets.now c.args.block.now c.args.from c.loop-i.i inv.0 c.loop-i.pos c.loop-i-test.false inv.1))
+pub loop-octet-preserved : goal.loop-octet-preserved
+loop-octet-preserved c =
+    let a = c.loop-octet.reader in
+    let n = left_length a.octets.now c.rest.result.now a.at c.rest.ensures in
+    let x = left_first a.octets.now c.rest.result.now a.at c.rest.ensures in
+    let inv = c.loop-octet.invariant in
+    (inv.0 ++ tt ∷ [], each_read marked c.args.octets.now 0 c.loop-octet.octet-index inv.1 c.loop-octet-test.true (mark_taken _ (omega arith) (sym x ∙ c.if-sent-octet.false) refl refl))

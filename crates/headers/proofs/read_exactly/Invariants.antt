@@ -1,7 +1,8 @@
-use Rattle.std.proofs.Common.{◌≤◌, List, length, take}
+use Rattle.std.proofs.Common.{List, take}
+use Rattle.values.specs.Reading.{Took}
 use Rattle.headers.specs.Headers.{exactly}
 use Rattle.headers.proofs.read_exactly.Given as goal
 
 -- the octets so far are there
-abbrev pub invariant-loop-i : goal.invariant-loop-i
-invariant-loop-i l = (l.pos ≤ length l.block) × ((marks : List (Unit {0})) × (exactly (take l.i l.octets)).Means l.block l.from marks l.pos)
+abbrev pub invariant-loop-octet : goal.invariant-loop-octet
+invariant-loop-octet l = (marks : List (Unit {0})) × Took (exactly (take l.octet-index l.octets)) l.initial.reader l.reader marks

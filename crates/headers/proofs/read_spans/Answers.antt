@@ -1,8 +1,21 @@
+use Rattle.std.proofs.lemmas.Result.{err_from_is_err_and}
+use Rattle.values.proofs.Readers.{fault_on}
+use Rattle.headers.specs.Headers.{span_in}
 use Rattle.headers.proofs.HeaderFacts.{first_faulty, second_faulty}
 use Rattle.headers.proofs.read_spans.Goals as goal
 
-pub returns-in-Err : goal.returns-in-Err
-returns-in-Err c = first_faulty c.args.last_first c.args.block.now c.args.from c.args.last_second c.in-Err.fault c.in-Err.ensures
+pub returns-in_err-first : goal.returns-in_err-first
+returns-in_err-first c =
+    let b = c.args.reader.now in
+    let p = err_from_is_err_and c.from_residual.result c.from_residual.ensures.1 in
+    rw (p.1, p.2) (first_faulty c.args.last_first b.octets.now b.at c.args.last_second _ c.in_err-first.ensures)
 
-pub returns-in-Err-read_span : goal.returns-in-Err-read_span
-returns-in-Err-read_span c = second_faulty c.args.last_first c.args.block.now c.args.from c.args.last_second c.in-Ok.first.row c.in-Ok.first.end c.in-Err-read_span.fault c.if-last_second-eq0.false c.in-Ok.ensures.1 c.in-Err-read_span.ensures
+pub returns-in_err-second : goal.returns-in_err-second
+returns-in_err-second c =
+    let b = c.args.reader.now in
+    let a = c.read_span.new.reader in
+    let t = c.in_ok-first.ensures in
+    let p = err_from_is_err_and c.from_residual-in_err-second.result c.from_residual-in_err-second.ensures.1 in
+    rw (p.1, p.2)
+    (second_faulty c.args.last_first b.octets.now b.at c.args.last_second c.in_ok-first.first a.at _ c.if-last_second-eq0.false t.means
+    (fault_on (span_in c.args.last_second) b a t.same _ c.in_err-second.ensures))

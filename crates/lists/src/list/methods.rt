@@ -30,6 +30,7 @@ impl<'a, T: Copy> BoundedList<'a, T> {
             (λ _. length (items self.old) ≡ room self.old) }
         ensures room { room self.new ≡ room self.old }
     {
+        // `get_mut` was tried, and the proof did not close: after it no item is known.
         if self.len >= self.slots.len() {
             return Err(Full);
         }
@@ -42,18 +43,13 @@ impl<'a, T: Copy> BoundedList<'a, T> {
     pub fn get(&self, i: usize) -> Option<T>
         ensures { result ≡ slice_get (items self.now) i }
     {
-        if i < self.len {
-            let slots = &*self.slots;
-            Some(slots[i])
-        } else {
-            None
-        }
+        self.as_slice().get(i).copied()
     }
 
     // The items, first to last.
     pub fn as_slice(&self) -> &[T]
         ensures { result.now ≡ items self.now }
     {
-        &self.slots[0..self.len]
+        &self.slots[..self.len]
     }
 }

@@ -1,8 +1,10 @@
-use Rattle.std.proofs.Common.{◌≡◌, ◌-◌, length, arith, rules}
-use Rattle.bench_unit.proofs.Room.{capped}
+use Rattle.std.proofs.Common.{◌≡◌, length, min, take, ap, ◌∙◌, arith, rules}
+use Rattle.std.proofs.lemmas.List.{take_min}
 use Rattle.bench_unit.proofs.BenchUnit.reply.Goals as goal
 
 pub returns : goal.returns
 returns c =
-    let room : length c.args.self.now.reply ≡ 1024 = search rules in
-    capped c.args.self.now.reply c.args.length (c.min.result - 0) room (omega (arith, c.min.ensures))
+    let reply = c.args.self.now.reply in
+    let room : length reply ≡ 1024 = search rules in
+    let all : c.min.result ≡ min c.args.length (length reply) = omega (arith, c.min.ensures) in
+    ap (λ n. take n reply) all ∙ take_min c.args.length reply

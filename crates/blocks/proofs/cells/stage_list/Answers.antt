@@ -1,7 +1,7 @@
 use Rattle.std.proofs.Common.{◌≡◌, ◌+◌, ◌<◌, length, ap, ◌∙◌, arith, rules}
 use Rattle.std.proofs.lemmas.List.{length_push}
 use Rattle.lists.specs.Items.{items, room}
-use Rattle.blocks.proofs.CellFacts.{taken, octet_staged, list_staged}
+use Rattle.blocks.proofs.CellFacts.{taken, octet_staged}
 use Rattle.blocks.proofs.cells.stage_list.Goals as goal
 
 pub loop-i-preserved : goal.loop-i-preserved
@@ -17,14 +17,3 @@ loop-i-preserved c =
       ap length t ∙ length_push (items c.loop-i.list) _ ∙ omega (arith, inv.1),
       octet_staged c.args.base c.args.column c.args.phases.now.phases c.loop-i.i _ _ _ (omega arith) inv.2 t,
     )
-
-pub returns : goal.returns
-returns c =
-    let inv = c.loop-i.invariant in
-    let n : length c.args.phases.now.phases ≡ 16 = search rules in
-    let begun : length (items c.args.list.now) < room c.args.list.now = omega (arith, c.requires.room) in
-    let first = taken c.push.result _ _ _ _ c.push.ensures.items c.push.ensures.refused begun in
-    record {
-      pushed = list_staged c.args.base c.args.column c.args.phases.now.phases c.loop-i.i _ c.args.phases.now.len _ _ c.loop-i-test.false c.loop-i.auto.i-end n first inv.2;
-      room = inv.0 ∙ c.push.ensures.room;
-    }

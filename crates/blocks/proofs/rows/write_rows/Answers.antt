@@ -1,6 +1,7 @@
 use Rattle.std.proofs.Common.{◌≡◌, ◌+◌, ◌<◌, ◌++◌, length, sym, ap, ◌∙◌, subst, arith}
-use Rattle.replies.specs.Replies.{Wrote}
-use Rattle.replies.proofs.ReplyFacts.{wrote_more}
+use Rattle.replies.specs.Replies.{Grew}
+use Rattle.replies.proofs.ReplyFacts.{grew_more}
+use Rattle.replies.proofs.ReplyFacts.{grew_room}
 use Rattle.headers.specs.Headers.{rows_in}
 use Rattle.blocks.specs.Layouts.{cells_at}
 use Rattle.blocks.specs.Rows.{row_in, rows_octets, rows_shown}
@@ -16,13 +17,13 @@ emit-requires g c =
     let sp = c.args.spans in
     let cells = g.M.ParameterMemory.cells c.args.memory.now in
     let less : k < rows_in sp = omega arith in
-    let left = room_left c.args.position.now.length (rows_in sp) k f.layout.most (length c.args.reply.now) c.requires.room less in
-    let shown : c.load-shown.result ≡ row_in cells f.family f.layout sp k =
+    let left = room_left c.args.reply.now.position.now.length (rows_in sp) k f.layout.most (length c.args.reply.now.octets.now) c.requires.room less in
+    let shown : c.load-shown.result ≡ row_in cells f.FAMILY f.layout sp k =
     c.load-shown.ensures.loaded ∙ (λ j. f.layout.row_of (cells_at (inv.2 j) (c.first_cell.ensures.cell j) f.layout.carried)) in
     let met = g.met.F.Family.lawful in
     record {
-      fits = subst f.layout.fits (sym shown) (met.loaded _ (cells_held f.family _ _ (row_stands f.family sp k c.requires.table less) cells c.requires.bounded f.layout.carried met.stand));
-      room = omega (arith, left, inv.1);
+      fits = subst f.layout.fits (sym shown) (met.loaded _ (cells_held f.FAMILY _ _ (row_stands f.FAMILY sp k c.requires.table less) cells c.requires.bounded f.layout.carried met.stand));
+      room = grew_room f.layout.most inv.0 (omega (arith, left, inv.1, inv.0.wrote.len));
     }
 
 pub loop-row-preserved : goal.loop-row-preserved
@@ -32,17 +33,17 @@ loop-row-preserved g c =
     let k = c.loop-row.row in
     let sp = c.args.spans in
     let cells = g.M.ParameterMemory.cells c.args.memory.now in
-    let shown : c.load-shown.result ≡ row_in cells f.family f.layout sp k =
+    let shown : c.load-shown.result ≡ row_in cells f.FAMILY f.layout sp k =
     c.load-shown.ensures.loaded ∙ (λ j. f.layout.row_of (cells_at (inv.2 j) (c.first_cell.ensures.cell j) f.layout.carried)) in
     let less : k < rows_in sp = omega arith in
     let met = g.met.F.Family.lawful in
-    let fit = subst f.layout.fits (sym shown) (met.loaded _ (cells_held f.family _ _ (row_stands f.family sp k c.requires.table less) cells c.requires.bounded f.layout.carried met.stand)) in
+    let fit = subst f.layout.fits (sym shown) (met.loaded _ (cells_held f.FAMILY _ _ (row_stands f.FAMILY sp k c.requires.table less) cells c.requires.bounded f.layout.carried met.stand)) in
     let few = met.short c.load-shown.result fit in
-    let e : rows_octets f.layout.octets k (rows_shown cells f.family f.layout sp k) ++ f.layout.octets c.load-shown.result ≡ rows_octets f.layout.octets (k + 1) (rows_shown cells f.family f.layout sp (k + 1)) =
-    ap (λ r. rows_octets f.layout.octets k (rows_shown cells f.family f.layout sp k) ++ f.layout.octets r) shown ∙ sym (octets_more f.layout.octets (row_in cells f.family f.layout sp) k) in (
-      subst (Wrote c.args.reply.now c.args.position.now.length c.emit.new.reply c.emit.new.position.length) e (wrote_more inv.0 c.emit.ensures),
-      omega (arith, inv.1, c.emit.ensures.len, one_more_of k f.layout.most, few),
-      c.load-shown.ensures.same ∙ inv.2,
-      c.load-shown.ensures.kept ∙ inv.3,
-      c.load-shown.ensures.sound,
+    let e : rows_octets f.layout.octets k (rows_shown cells f.FAMILY f.layout sp k) ++ f.layout.octets c.load-shown.result ≡ rows_octets f.layout.octets (k + 1) (rows_shown cells f.FAMILY f.layout sp (k + 1)) =
+    ap (λ r. rows_octets f.layout.octets k (rows_shown cells f.FAMILY f.layout sp k) ++ f.layout.octets r) shown ∙ sym (octets_more f.layout.octets (row_in cells f.FAMILY f.layout sp) k) in (
+      subst (Grew c.args.reply.now c.emit.new.reply) e (grew_more inv.0 c.emit.ensures),
+      omega (arith, inv.1, c.emit.ensures.wrote.len, one_more_of k f.layout.most, few),
+      c.load-shown.ensures.read.same ∙ inv.2,
+      c.load-shown.ensures.read.kept ∙ inv.3,
+      c.load-shown.ensures.read.sound,
     )

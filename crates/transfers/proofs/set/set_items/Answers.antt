@@ -4,24 +4,16 @@ use Rattle.transfers.specs.Sets.SetTo.{miscounted, faulty, taken}
 use Rattle.transfers.proofs.SetFacts.{writes_fit}
 use Rattle.transfers.proofs.set.set_items.Goals as goal
 
-pub returns-in_err-items : goal.returns-in_err-items
-returns-in_err-items g c =
+pub returns-in_err-items-clause-outcome : goal.returns-in_err-items-clause-outcome
+returns-in_err-items-clause-outcome g c =
     let p = err_from_is_err_and c.from_residual.result c.from_residual.ensures.1 in
-    record {
-      sound = c.requires.sound;
-      kept = refl;
-      outcome = rw (p.1, p.2) (miscounted _ c.in_err-items.ensures refl refl);
-    }
+    rw (p.1, p.2) (miscounted _ c.in_err-items.ensures refl refl)
 
-pub returns-in_err-stage_items : goal.returns-in_err-stage_items
-returns-in_err-stage_items g c =
+pub returns-in_err-stage_items-clause-outcome : goal.returns-in_err-stage_items-clause-outcome
+returns-in_err-stage_items-clause-outcome g c =
     let p = err_from_is_err_and c.from_residual-in_err-stage_items.result c.from_residual-in_err-stage_items.ensures.1 in
     let o = c.in_err-stage_items.ensures in
-    record {
-      sound = c.requires.sound;
-      kept = refl;
-      outcome = rw (p.1, p.2) (faulty o.0 _ c.in_ok-items.ensures.0 o.1 refl refl);
-    }
+    rw (p.1, p.2) (faulty o.0 _ c.in_ok-items.ensures.0 o.1 refl refl)
 
 pub write_staged-requires : goal.write_staged-requires
 write_staged-requires g c =
@@ -31,10 +23,6 @@ write_staged-requires g c =
       fit = rw c.as_slice.ensures (writes_fit c.args.body.now _ _ c.in_ok-stage_items.ensures);
     }
 
-pub returns : goal.returns
-returns g c =
-    record {
-      sound = c.write_staged.ensures.sound;
-      kept = c.write_staged.ensures.kept;
-      outcome = taken _ c.in_ok-items.ensures.0 c.in_ok-stage_items.ensures refl (rw (← c.as_slice.ensures) c.write_staged.ensures.taken);
-    }
+pub returns-clause-outcome : goal.returns-clause-outcome
+returns-clause-outcome g c =
+    taken _ c.in_ok-items.ensures.0 c.in_ok-stage_items.ensures refl (rw (← c.as_slice.ensures) c.write_staged.ensures.taken)

@@ -1,4 +1,4 @@
-use Rattle.std.proofs.Common.{◌≡◌, ◌+◌, ◌/◌, [], ◌∷◌, ◌++◌, length, sym, ◌∙◌, subst, arith, rules}
+use Rattle.std.proofs.Common.{◌≡◌, ◌+◌, ◌<◌, ◌/◌, [], ◌∷◌, ◌++◌, length, ◌∙◌, subst, sym, arith, rules}
 use Rattle.std.proofs.lemmas.Result.{err_from_is_err_and}
 use Rattle.lists.specs.Items.{items as listed}
 use Rattle.tables.specs.Allowed.{Stores}
@@ -11,22 +11,27 @@ pub returns-in_err-write : goal.returns-in_err-write
 returns-in_err-write c =
     let p = err_from_is_err_and c.from_residual.result c.from_residual.ensures.1 in
     let body = c.args.body.now in
+    let item = c.loop-item.item in
     let n = item_count body c.args.items.now c.requires.whole c.requires.items in
     let count : count_in body ≡ length c.args.items.now / 6 = omega arith in
-    rw (p.1, p.2) (
-      c.loop-item.item,
-      first_fault body (listed c.loop-item.staged) c.loop-item.item _ (omega arith) c.loop-item.invariant.0 (c.in_err-write.ensures body c.requires.items count),
-    )
+    let h : item < length c.args.items.now / 6 = omega arith in
+    let a = c.addresses_in-address-items.ensures.each body item c.requires.items h in
+    let v = c.values_in-values.ensures.each body item c.requires.items (omega (arith, n, h)) in
+    rw (p.1, p.2) (item, first_fault body (listed c.loop-item.staged) item _ (omega arith) c.loop-item.invariant.0 (c.in_err-write.ensures body a v count))
 
 pub loop-item-preserved : goal.loop-item-preserved
 loop-item-preserved c =
     let body = c.args.body.now in
+    let item = c.loop-item.item in
     let n = item_count body c.args.items.now c.requires.whole c.requires.items in
     let count : count_in body ≡ length c.args.items.now / 6 = omega arith in
+    let h : item < length c.args.items.now / 6 = omega arith in
+    let a = c.addresses_in-address-items.ensures.each body item c.requires.items h in
+    let v = c.values_in-values.ensures.each body item c.requires.items (omega (arith, n, h)) in
     let w = c.in_ok-write.write in
-    let s : Stores (address_at body c.loop-item.item) (sent_at body (count_in body) c.loop-item.item) w.cell w.value =
-    subst (λ m. Stores (address_at body c.loop-item.item) (sent_at body m c.loop-item.item) w.cell w.value) (sym count) (c.in_ok-write.ensures body c.requires.items count) in
+    let s : Stores (address_at body item) (sent_at body (count_in body) item) w.cell w.value =
+    subst (λ m. Stores (address_at body item) (sent_at body m item) w.cell w.value) (sym count) (c.in_ok-write.ensures body a v count) in
     let e : listed c.push.new.self ≡ listed c.loop-item.staged ++ w ∷ [] = search rules in (
-      subst (Writes body (c.loop-item.item + 1)) (sym e) (writes_more body (listed c.loop-item.staged) c.loop-item.item w c.loop-item.invariant.0 s),
+      subst (Writes body (item + 1)) (sym e) (writes_more body (listed c.loop-item.staged) item w c.loop-item.invariant.0 s),
       c.push.ensures.room ∙ c.loop-item.invariant.1,
     )

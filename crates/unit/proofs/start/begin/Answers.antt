@@ -15,16 +15,11 @@ loop-cell-preserved g c =
       c.write.ensures.sound,
     )
 
-pub returns : goal.returns
-returns g c =
+pub returns-clause-started : goal.returns-clause-started
+returns-clause-started g c =
     let inv = c.loop-cell.invariant in
     record {
-      sound = inv.3;
-      kept = inv.2;
-      started =
-          record {
-            count = sym c.count.ensures.value ∙ omega arith;
-            cells = factory_end _ c.loop-cell.cell (omega arith) inv.1 inv.0;
-            mode = c.new.ensures;
-          };
+      count = sym c.count.ensures.value ∙ omega arith;
+      cells = factory_end _ c.loop-cell.cell (omega arith) inv.1 inv.0;
+      mode = c.new.result.is;
     }

@@ -1,12 +1,9 @@
-use Rattle.std.proofs.Common.{take, ap, ◌∙◌}
-use native.Mathlib.Nat.{sub-zero}
+use Rattle.std.proofs.Common.{◌∙◌}
+use Rattle.lines.specs.Spelling.{Holds}
 use Rattle.lines.proofs.Held.{held_cases}
 use Rattle.lines.proofs.buffer.LineBuffer.octets.Goals as goal
 
-pub returns : goal.returns
-returns c =
-    record {
-      cases = λ line h. held_cases _ line _ (ap (λ n. take n c.args.self.now.bytes) (sub-zero c.args.self.now.len) ∙ h) _ c.octets_of_line.ensures.cases c.octets_of_line.ensures.bound;
-      bound = c.octets_of_line.ensures.bound;
-      same = c.octets_of_line.ensures.same;
-    }
+pub returns-clause-cases : goal.returns-clause-cases
+returns-clause-cases c line h =
+    let held : Holds c.deref.result.now line = c.deref.ensures.0 ∙ c.self.view_is ∙ h in
+    held_cases c.deref.result.now line held _ c.octets_of_line.ensures.cases c.octets_of_line.ensures.bound
