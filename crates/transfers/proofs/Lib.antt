@@ -1,3 +1,4 @@
 pub mod ItemFacts
 pub mod GetFacts
 pub mod SetFacts
+pub mod OneTransfer

@@ -1,7 +1,7 @@
 -- Every refusal's number, layer and place, and the octets of its reply.
 use Rattle.std.specs.Prelude.{ℕ, ◌/◌, ◌%◌, Bool, true, false, List, [], ◌∷◌}
 use Rattle.transfers.specs.declared.refusal.Refusal.{Refusal}
-use Rattle.transfers.specs.declared.refusal.Refusal.TheVariants.{MemoryCount, Room, EmptyRequest, UnknownOperation, Mode, ItemCount, Missing, Over, NoNumber, NotAllowed}
+use Rattle.transfers.specs.declared.refusal.Refusal.TheVariants.{MemoryCount, Room, EmptyRequest, UnknownOperation, Mode, ItemCount, Missing, Over, NoNumber, NotAllowed, NotInTable, CountDiffers}
 
 abbrev pub number_of : Refusal → ℕ
 number_of MemoryCount = 9
@@ -14,6 +14,8 @@ number_of (Missing n) = 6
 number_of (Over n) = 6
 number_of (NoNumber n) = 2
 number_of (NotAllowed n) = 3
+number_of (NotInTable n) = 2
+number_of (CountDiffers n) = 6
 
 abbrev pub layer_of : Refusal → ℕ
 layer_of MemoryCount = 0
@@ -26,6 +28,8 @@ layer_of (Missing n) = 1
 layer_of (Over n) = 1
 layer_of (NoNumber n) = 4
 layer_of (NotAllowed n) = 4
+layer_of (NotInTable n) = 3
+layer_of (CountDiffers n) = 3
 
 abbrev pub place_of : Refusal → ℕ
 place_of MemoryCount = 0
@@ -38,6 +42,8 @@ place_of (Missing n) = n
 place_of (Over n) = n
 place_of (NoNumber n) = n
 place_of (NotAllowed n) = n
+place_of (NotInTable n) = n
+place_of (CountDiffers n) = n
 
 -- the two refusals that leave reply memory alone
 abbrev pub unanswered : Refusal → Bool
@@ -51,6 +57,8 @@ unanswered (Missing n) = false
 unanswered (Over n) = false
 unanswered (NoNumber n) = false
 unanswered (NotAllowed n) = false
+unanswered (NotInTable n) = false
+unanswered (CountDiffers n) = false
 
 -- the reply of a refusal: number, layer and a two-octet place
 abbrev pub refusal_octets : Refusal → List ℕ

@@ -27,6 +27,10 @@ pub enum Refusal {
     NoNumber(u16),
     // a value that is not allowed: the offset of its first octet
     NotAllowed(u16),
+    // a block's data type, ID, index or quantity that the table has not: its offset
+    NotInTable(u16),
+    // a block's count octet that is not the one that its quantities call for: its offset
+    CountDiffers(u16),
 }
 
 impl Refusal {
@@ -41,10 +45,13 @@ impl Refusal {
             Refusal::ItemCount | Refusal::Missing(_) | Refusal::Over(_) => 6,
             Refusal::NoNumber(_) => 2,
             Refusal::NotAllowed(_) => 3,
+            Refusal::NotInTable(_) => 2,
+            Refusal::CountDiffers(_) => 6,
         }
     }
 
-    // Where in the request's layers the fault lies: 1 octets, 2 mode, 4 values; 0, which no reply shows, where there is none.
+    // Where in the request's layers the fault lies: 1 octets, 2 mode, 3 a block's header, 4 values; 0, which no reply shows,
+    // where there is none.
     pub fn layer(self) -> u8
         ensures { result ≡ layer_of self }
     {
@@ -53,6 +60,7 @@ impl Refusal {
             Refusal::EmptyRequest | Refusal::UnknownOperation => 1,
             Refusal::Mode => 2,
             Refusal::ItemCount | Refusal::Missing(_) | Refusal::Over(_) => 1,
+            Refusal::NotInTable(_) | Refusal::CountDiffers(_) => 3,
             Refusal::NoNumber(_) | Refusal::NotAllowed(_) => 4,
         }
     }
@@ -67,6 +75,7 @@ impl Refusal {
             Refusal::ItemCount => 1,
             Refusal::Missing(length) => length,
             Refusal::Over(at) | Refusal::NoNumber(at) | Refusal::NotAllowed(at) => at,
+            Refusal::NotInTable(at) | Refusal::CountDiffers(at) => at,
         }
     }
 }
