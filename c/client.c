@@ -1,15 +1,22 @@
 /*
  * A client of the unit, as a cabinet's firmware might be.
  *
- *   client words     runs the script on standard input on memories of words
- *   client packed    the same on packed memories
- *   client refusals  tries memories of wrong lengths and wrong modes, a line for each
+ *   client words          runs the script on standard input on memories of words
+ *   client packed         the same on packed memories
+ *   client blocks-words   runs a script that has one table for all its lines, of words
+ *   client blocks-packed  the same on a packed table
+ *   client refusals       tries memories of wrong lengths and wrong modes, a line each
  *
  * A line of a script is a request: capital hexadecimal pairs parted by one space,
  * at most 1,024 of them; an empty line is an empty request. The reply is printed
  * in the same way, and `bad line` for any other line. After each call the client
- * looks at what the call must leave alone, at the mode and at the draft's cells, and
- * ends with status 1 where one of them is not as it should be.
+ * looks at what the call must leave alone, at the mode and at all cells, and ends
+ * with status 1 where one of them is not as it should be.
+ *
+ * The one table of `blocks-words` and `blocks-packed` begins as the factory table. It
+ * is lent as the draft of an open edit to each set and set block, and as the running
+ * table, quiet, to any other request. Behind the reply to a refusal they print
+ * `no cell changed`, or `cells changed` where the table is not as it was.
  */
 #include <stdbool.h>
 #include <stdio.h>
@@ -34,17 +41,26 @@
 /* What memory holds before it is used. */
 #define FILL 0xA5
 
+#define COUNT(array) (sizeof(array) / sizeof(array)[0])
+
 enum form { WORDS, PACKED };
 
 /* The first octets of requests. */
-enum { GET = 1, SET = 2, OPEN = 5, ABANDON = 9 };
+enum { GET = 1, SET = 2, GET_BLOCK = 3, SET_BLOCK = 4, OPEN = 5, ABANDON = 9 };
+
+/* The data type of a block. */
+#define STANDARD 0
+
+/* A parameter memory in both forms; a call is lent one of them. */
+struct forms {
+    uint16_t words[MOST_WORDS + GUARD];
+    uint8_t octets[MOST_PACKED + GUARD];
+};
 
 /* All memory that a call may reach. */
 struct memory {
-    uint16_t running_words[MOST_WORDS + GUARD];
-    uint16_t draft_words[MOST_WORDS + GUARD];
-    uint8_t running_octets[MOST_PACKED + GUARD];
-    uint8_t draft_octets[MOST_PACKED + GUARD];
+    struct forms running;
+    struct forms draft;
     uint8_t request[MOST_PAIRS + GUARD];
     uint8_t reply[MOST_REPLY + GUARD];
 };
@@ -56,15 +72,72 @@ struct lengths {
     size_t reply;
 };
 
+/* The values of a memory's cells. */
+struct cells {
+    uint16_t values[SAGBUWEN_CELLS];
+};
+
 static struct memory memory;
 
 /* The same before the call. */
 static struct memory before;
 
-/* The cells that the draft should have. */
-static uint16_t expected_draft[SAGBUWEN_CELLS];
+/* The cells that the memories should have. */
+static struct cells expected_running;
+static struct cells expected_draft;
 
 static const char *const form_names[] = {"words", "packed"};
+
+/* What a column holds, and so what a row of a block carries for it. */
+enum column {
+    OCTET,      /* a number of one octet */
+    PAIR,       /* a number of two octets, the high one first */
+    OPTIONS,    /* a vehicle detector's options, one octet */
+    LIST,       /* a list: its length, then as many octets */
+    NOT_CARRIED /* a number of one octet that no row carries */
+};
+
+/* The bits of a vehicle detector's options that are not stored together. */
+enum { BIT_2 = 1 << 2, BIT_3 = 1 << 3 };
+
+/* The cells of a list: its length and sixteen octets. A list is last in its row. */
+#define LIST_CELLS 17
+
+static const enum column phase_columns[] = {
+    OCTET, OCTET, OCTET, OCTET, OCTET, OCTET, OCTET, OCTET, OCTET, OCTET, OCTET,
+    OCTET, OCTET, OCTET, OCTET, OCTET, OCTET, OCTET, OCTET, PAIR,  OCTET, LIST,
+};
+static const enum column vehicle_detector_columns[] = {
+    OPTIONS, OCTET, OCTET, PAIR, OCTET, OCTET, OCTET, OCTET, OCTET, OCTET,
+};
+static const enum column pedestrian_detector_columns[] = {OCTET, OCTET, OCTET, OCTET};
+static const enum column pattern_columns[] = {OCTET, OCTET, NOT_CARRIED, OCTET};
+static const enum column split_columns[] = {OCTET, OCTET, OCTET};
+static const enum column action_columns[] = {OCTET, OCTET, OCTET};
+static const enum column sequence_columns[] = {LIST};
+
+struct family {
+    size_t first_cell;
+    size_t row_cells;
+    unsigned last_first;
+    unsigned last_second; /* 0 where a row has one index */
+    size_t column_count;
+    const enum column *columns;
+};
+
+#define COLUMNS(array) COUNT(array), array
+
+/* The families by data ID. */
+static const struct family families[] = {
+    {0, 38, 16, 0, COLUMNS(phase_columns)},
+    {608, 10, 64, 0, COLUMNS(vehicle_detector_columns)},
+    {1248, 4, 8, 0, COLUMNS(pedestrian_detector_columns)},
+    {1280, 4, 32, 0, COLUMNS(pattern_columns)},
+    {1408, 3, 16, 16, COLUMNS(split_columns)},
+    {2176, 3, 32, 0, COLUMNS(action_columns)},
+    {0, 0, 0, 0, 0, NULL}, /* there is no family 6 */
+    {2272, LIST_CELLS, 4, 4, COLUMNS(sequence_columns)},
+};
 
 static void fail(const char *what)
 {
@@ -77,9 +150,9 @@ static void fail(const char *what)
 static void fill_memory(void)
 {
     memset(&memory, FILL, sizeof memory);
-    for (size_t i = 0; i < sizeof memory.running_words / sizeof memory.running_words[0]; i++) {
-        memory.running_words[i] = (uint16_t)(FILL << 8 | (i & 0xFF));
-        memory.draft_words[i] = (uint16_t)(FILL << 8 | (~i & 0xFF));
+    for (size_t i = 0; i < COUNT(memory.running.words); i++) {
+        memory.running.words[i] = (uint16_t)(FILL << 8 | (i & 0xFF));
+        memory.draft.words[i] = (uint16_t)(FILL << 8 | (~i & 0xFF));
     }
 }
 
@@ -92,21 +165,21 @@ static struct lengths right_lengths(enum form form)
 
 static sagbuwen_answer start(enum form form, size_t running)
 {
-    before = memory;
+    memcpy(&before, &memory, sizeof memory);
     if (form == WORDS) {
-        return sagbuwen_factory_start_words(memory.running_words, running);
+        return sagbuwen_factory_start_words(memory.running.words, running);
     }
-    return sagbuwen_factory_start_packed(memory.running_octets, running);
+    return sagbuwen_factory_start_packed(memory.running.octets, running);
 }
 
 static sagbuwen_answer request(enum form form, uint8_t mode, struct lengths lent, size_t octets)
 {
-    before = memory;
+    memcpy(&before, &memory, sizeof memory);
     if (form == WORDS) {
-        return sagbuwen_request_words(mode, memory.running_words, lent.running, memory.draft_words,
+        return sagbuwen_request_words(mode, memory.running.words, lent.running, memory.draft.words,
                                       lent.draft, memory.request, octets, memory.reply, lent.reply);
     }
-    return sagbuwen_request_packed(mode, memory.running_octets, lent.running, memory.draft_octets,
+    return sagbuwen_request_packed(mode, memory.running.octets, lent.running, memory.draft.octets,
                                    lent.draft, memory.request, octets, memory.reply, lent.reply);
 }
 
@@ -115,13 +188,22 @@ static bool nothing_changed(void)
     return memcmp(&memory, &before, sizeof memory) == 0;
 }
 
+static bool is_family(size_t id)
+{
+    return id < COUNT(families) && families[id].column_count > 0;
+}
+
 /* Whether the whole word is the cell. */
 static bool is_wide(size_t cell)
 {
-    if (cell < 608) {
-        return cell % 38 == 19;
+    const struct family *family = families;
+    for (size_t id = 0; id < COUNT(families); id++) {
+        if (is_family(id) && families[id].first_cell <= cell) {
+            family = &families[id];
+        }
     }
-    return cell < 1248 && (cell - 608) % 10 == 3;
+    size_t in_row = (cell - family->first_cell) % family->row_cells;
+    return in_row < family->column_count && family->columns[in_row] == PAIR;
 }
 
 /* Lets words that were there before have the cells that are there now. */
@@ -133,33 +215,35 @@ static void allow_cells(uint16_t *was, const uint16_t *is)
     }
 }
 
-static void allow_running(enum form form)
+/* Lets a memory as it was before have the cells that it has now. */
+static void allow_memory(enum form form, struct forms *was, const struct forms *is)
 {
     if (form == WORDS) {
-        allow_cells(before.running_words, memory.running_words);
+        allow_cells(was->words, is->words);
     } else {
-        memcpy(before.running_octets, memory.running_octets, SAGBUWEN_PACKED_OCTETS);
-    }
-}
-
-static void allow_draft(enum form form)
-{
-    if (form == WORDS) {
-        allow_cells(before.draft_words, memory.draft_words);
-    } else {
-        memcpy(before.draft_octets, memory.draft_octets, SAGBUWEN_PACKED_OCTETS);
+        memcpy(was->octets, is->octets, SAGBUWEN_PACKED_OCTETS);
     }
 }
 
 #define SAME(part) (memcmp(memory.part, before.part, sizeof memory.part) == 0)
 
+static bool running_same(void)
+{
+    return SAME(running.words) && SAME(running.octets);
+}
+
+static bool draft_same(void)
+{
+    return SAME(draft.words) && SAME(draft.octets);
+}
+
 /* Ends the client if a call changed more than `before` was let have. */
 static void check_kept(void)
 {
-    if (!SAME(running_words) || !SAME(running_octets)) {
+    if (!running_same()) {
         fail("running memory changed, or more of it than its cells");
     }
-    if (!SAME(draft_words) || !SAME(draft_octets)) {
+    if (!draft_same()) {
         fail("draft memory changed, or more of it than its cells");
     }
     if (!SAME(request)) {
@@ -170,13 +254,18 @@ static void check_kept(void)
     }
 }
 
+/* Whether the request has the draft take values. */
+static bool is_edit(void)
+{
+    return memory.request[0] == SET || memory.request[0] == SET_BLOCK;
+}
+
 /* A request changes at most the first 1,024 octets of reply memory and, where it is
-   an accepted open or set, the draft's cells. */
+   an accepted open, set or set block, the draft's cells. */
 static void check_request_kept(enum form form, sagbuwen_answer answer)
 {
-    uint8_t operation = memory.request[0];
-    if (answer.number == SAGBUWEN_ACCEPTED && (operation == OPEN || operation == SET)) {
-        allow_draft(form);
+    if (answer.number == SAGBUWEN_ACCEPTED && (is_edit() || memory.request[0] == OPEN)) {
+        allow_memory(form, &before.draft, &memory.draft);
     }
     memcpy(before.reply, memory.reply, SAGBUWEN_REPLY_OCTETS);
     check_kept();
@@ -196,41 +285,60 @@ static void check_mode(uint8_t mode, sagbuwen_answer answer)
     }
 }
 
-/* Reads the cells of a memory, which is words or packed octets. */
-static void read_cells(enum form form, const uint16_t *words, const uint8_t *octets, uint16_t *cells)
+/* The cells that a memory has. */
+static struct cells read_cells(enum form form, const struct forms *from)
 {
+    struct cells cells;
+    const uint8_t *octets = from->octets;
     for (size_t i = 0; i < SAGBUWEN_CELLS; i++) {
         if (form == WORDS) {
-            cells[i] = is_wide(i) ? words[i] : words[i] & 0x00FF;
+            cells.values[i] = is_wide(i) ? from->words[i] : from->words[i] & 0x00FF;
         } else {
-            cells[i] = *octets++;
+            cells.values[i] = *octets++;
             if (is_wide(i)) {
-                cells[i] = (uint16_t)(cells[i] << 8 | *octets++);
+                cells.values[i] = (uint16_t)(cells.values[i] << 8 | *octets++);
             }
         }
     }
+    return cells;
+}
+
+static const struct family *family_of(uint8_t id)
+{
+    if (!is_family(id)) {
+        fail("a data ID of no family was accepted");
+    }
+    return &families[id];
+}
+
+/* The first cell of a row; the second index is 0 where a row has one index. */
+static size_t row_begins(const struct family *family, unsigned first, unsigned second)
+{
+    bool first_good = first >= 1 && first <= family->last_first;
+    bool second_good = second <= family->last_second && (second == 0) == (family->last_second == 0);
+    if (!first_good || !second_good) {
+        fail("indices of no row were accepted");
+    }
+    unsigned rows_before = (second == 0 ? 0 : second - 1) * family->last_first + first - 1;
+    return family->first_cell + rows_before * family->row_cells;
 }
 
 /* The cell of the number that an address names. */
 static size_t cell_of(const uint8_t *address)
 {
-    static const struct {
-        size_t cells_before;
-        size_t row_cells;
-    } families[] = {{0, 38}, {608, 10}, {1248, 4}, {1280, 4}, {1408, 3}, {2176, 3}};
+    const struct family *family = family_of(address[0]);
+    size_t column = address[1];
+    if (column < 1 || column > family->column_count || family->columns[column - 1] == LIST) {
+        fail("an address of no number was accepted");
+    }
+    return row_begins(family, address[2], address[3]) + column - 1;
+}
 
-    if (address[0] >= sizeof families / sizeof families[0]) {
-        fail("an address of no number was accepted");
-    }
-    /* Only splits have a second index: sixteen rows to each. */
-    size_t second = address[3] == 0 ? 0 : address[3] - 1u;
-    size_t row = second * 16 + address[2] - 1u;
-    size_t row_begins = families[address[0]].cells_before + row * families[address[0]].row_cells;
-    size_t cell = row_begins + address[1] - 1u;
-    if (cell >= SAGBUWEN_CELLS) {
-        fail("an address of no number was accepted");
-    }
-    return cell;
+/* What a vehicle detector's options are stored as: sent with both, they lose bit 3. */
+static uint16_t stored_options(uint16_t sent)
+{
+    bool both = (sent & BIT_2) != 0 && (sent & BIT_3) != 0;
+    return both ? (uint16_t)(sent - BIT_3) : sent;
 }
 
 /* What an accepted set leads to: its values in order. */
@@ -241,27 +349,148 @@ static void expect_set(const uint8_t *set)
         const uint8_t *address = &set[2 + 4 * i];
         const uint8_t *sent = &set[2 + 4 * count + 2 * i];
         uint16_t value = (uint16_t)(sent[0] << 8 | sent[1]);
-        bool detector_options = address[0] == 1 && address[1] == 1;
-        if (detector_options && (value & 0x0C) == 0x0C) {
-            value &= 0xFFF7;
-        }
-        expected_draft[cell_of(address)] = value;
+        size_t cell = cell_of(address);
+        bool is_options = families[address[0]].columns[address[1] - 1] == OPTIONS;
+        expected_draft.values[cell] = is_options ? stored_options(value) : value;
     }
 }
 
-/* Ends the client if the draft's cells are not those that the requests lead to. */
-static void check_draft(enum form form, sagbuwen_answer answer)
-{
-    uint16_t cells[SAGBUWEN_CELLS];
+/* What is left to read of an accepted request. */
+struct rest {
+    const uint8_t *octets;
+    size_t count;
+};
 
-    if (answer.number == SAGBUWEN_ACCEPTED && memory.request[0] == OPEN) {
-        read_cells(form, memory.running_words, memory.running_octets, expected_draft);
+static uint8_t next_octet(struct rest *rest)
+{
+    if (rest->count == 0) {
+        fail("a block with octets missing was accepted");
     }
-    if (answer.number == SAGBUWEN_ACCEPTED && memory.request[0] == SET) {
+    rest->count--;
+    return *rest->octets++;
+}
+
+/* A first index, and how many rows there are from it on. */
+struct span {
+    unsigned begin;
+    unsigned quantity;
+};
+
+static struct span next_span(struct rest *rest)
+{
+    struct span span;
+    span.begin = next_octet(rest);
+    span.quantity = next_octet(rest);
+    return span;
+}
+
+/* A count: how many octets it has, then these, the high one first. */
+static unsigned next_count(struct rest *rest)
+{
+    unsigned count = 0;
+    for (unsigned octets = next_octet(rest); octets > 0; octets--) {
+        count = count << 8 | next_octet(rest);
+    }
+    return count;
+}
+
+/* What a list leads to: its length, its octets, and zeros in the rest of its cells. */
+static void expect_list(uint16_t *cells, struct rest *rest)
+{
+    memset(cells, 0, LIST_CELLS * sizeof *cells);
+    cells[0] = next_octet(rest);
+    if (cells[0] >= LIST_CELLS) {
+        fail("a list that is too long was accepted");
+    }
+    for (size_t i = 1; i <= cells[0]; i++) {
+        cells[i] = next_octet(rest);
+    }
+}
+
+/* What the octets for a column lead to, from its first cell on. */
+static void expect_column(enum column column, uint16_t *cells, struct rest *rest)
+{
+    switch (column) {
+    case OCTET:
+        *cells = next_octet(rest);
+        break;
+    case PAIR:
+        *cells = (uint16_t)(next_octet(rest) << 8);
+        *cells |= next_octet(rest);
+        break;
+    case OPTIONS:
+        *cells = stored_options(next_octet(rest));
+        break;
+    case LIST:
+        expect_list(cells, rest);
+        break;
+    case NOT_CARRIED:
+        break;
+    }
+}
+
+static void expect_row(const struct family *family, uint16_t *cells, struct rest *rest)
+{
+    for (size_t i = 0; i < family->column_count; i++) {
+        expect_column(family->columns[i], &cells[i], rest);
+    }
+}
+
+/* What an accepted set block leads to: its rows, the first index innermost. */
+static void expect_set_block(const uint8_t *block, size_t octets)
+{
+    struct rest rest = {block, octets};
+    if (next_octet(&rest) != STANDARD) {
+        fail("a block of an unknown data type was accepted");
+    }
+    const struct family *family = family_of(next_octet(&rest));
+    struct span firsts = next_span(&rest);
+    struct span seconds = {0, 1};
+    if (family->last_second > 0) {
+        seconds = next_span(&rest);
+    }
+    if (next_count(&rest) != firsts.quantity * seconds.quantity) {
+        fail("a block with a wrong count was accepted");
+    }
+    for (unsigned i = 0; i < seconds.quantity; i++) {
+        for (unsigned j = 0; j < firsts.quantity; j++) {
+            size_t cell = row_begins(family, firsts.begin + j, seconds.begin + i);
+            expect_row(family, &expected_draft.values[cell], &rest);
+        }
+    }
+    if (rest.count > 0) {
+        fail("a block with octets over was accepted");
+    }
+}
+
+/* Has the expected cells follow a request of so many octets. */
+static void expect_request(sagbuwen_answer answer, size_t octets)
+{
+    if (answer.number != SAGBUWEN_ACCEPTED) {
+        return;
+    }
+    switch (memory.request[0]) {
+    case SET:
         expect_set(memory.request);
+        break;
+    case SET_BLOCK:
+        expect_set_block(memory.request + 1, octets - 1);
+        break;
+    case OPEN:
+        expected_draft = expected_running;
+        break;
     }
-    read_cells(form, memory.draft_words, memory.draft_octets, cells);
-    if (memcmp(cells, expected_draft, sizeof cells) != 0) {
+}
+
+/* Ends the client if a memory's cells are not those that the requests lead to. */
+static void check_cells(enum form form)
+{
+    struct cells running = read_cells(form, &memory.running);
+    struct cells draft = read_cells(form, &memory.draft);
+    if (memcmp(&running, &expected_running, sizeof running) != 0) {
+        fail("a cell of the running table is wrong");
+    }
+    if (memcmp(&draft, &expected_draft, sizeof draft) != 0) {
         fail("a cell of the draft is wrong");
     }
 }
@@ -341,38 +570,102 @@ static void print_octets(const uint8_t *octets, size_t count)
     putchar('\n');
 }
 
-static void run_script(enum form form)
+/* Ends the client if a request in this mode, of so many octets, left anything as it
+   should not be. */
+static void check_request(enum form form, uint8_t mode, size_t octets, sagbuwen_answer answer)
+{
+    check_request_kept(form, answer);
+    check_mode(mode, answer);
+    expect_request(answer, octets);
+    check_cells(form);
+}
+
+/* The factory start that every script begins with. */
+static void start_script(enum form form)
 {
     fill_memory();
-    struct lengths lent = right_lengths(form);
-    sagbuwen_answer answer = start(form, lent.running);
+    sagbuwen_answer answer = start(form, right_lengths(form).running);
     if (answer.number != SAGBUWEN_ACCEPTED || answer.mode != SAGBUWEN_QUIET || answer.length != 0) {
         fail("the factory start does not answer 0, quiet and no reply");
     }
-    allow_running(form);
+    allow_memory(form, &before.running, &memory.running);
     check_kept();
-    read_cells(form, memory.draft_words, memory.draft_octets, expected_draft);
+    expected_running = read_cells(form, &memory.running);
+    expected_draft = read_cells(form, &memory.draft);
+}
 
+/* Reads the next request of the script, past all bad lines; false at the end. */
+static bool next_request(size_t *octets)
+{
     unsigned char line[LINE_ROOM];
     size_t length;
     while (read_line(line, &length)) {
-        size_t octets;
         memset(memory.request, FILL, sizeof memory.request);
-        if (!octets_of_line(line, length, memory.request, &octets)) {
-            puts("bad line");
-            continue;
+        if (octets_of_line(line, length, memory.request, octets)) {
+            return true;
         }
-        memset(memory.reply, FILL, SAGBUWEN_REPLY_OCTETS);
-        uint8_t mode = answer.mode;
-        answer = request(form, mode, lent, octets);
-        check_request_kept(form, answer);
-        check_mode(mode, answer);
-        check_draft(form, answer);
-        check_reply(answer);
-        print_octets(memory.reply, answer.length);
+        puts("bad line");
     }
     if (ferror(stdin)) {
         fail("the script could not be read");
+    }
+    return false;
+}
+
+/* Hands the request to the unit and prints the reply. */
+static sagbuwen_answer print_reply(enum form form, uint8_t mode, size_t octets)
+{
+    memset(memory.reply, FILL, SAGBUWEN_REPLY_OCTETS);
+    sagbuwen_answer answer = request(form, mode, right_lengths(form), octets);
+    check_reply(answer);
+    print_octets(memory.reply, answer.length);
+    return answer;
+}
+
+static void run_script(enum form form)
+{
+    start_script(form);
+    uint8_t mode = SAGBUWEN_QUIET;
+    size_t octets;
+    while (next_request(&octets)) {
+        sagbuwen_answer answer = print_reply(form, mode, octets);
+        check_request(form, mode, octets, answer);
+        mode = answer.mode;
+    }
+}
+
+/* Has running memory and draft memory change places. */
+static void swap_memories(void)
+{
+    struct forms forms = memory.running;
+    struct cells cells = expected_running;
+    memory.running = memory.draft;
+    expected_running = expected_draft;
+    memory.draft = forms;
+    expected_draft = cells;
+}
+
+/* Runs a script that has one table for all its lines. Between lines the table stands in
+   running memory. */
+static void run_blocks(enum form form)
+{
+    start_script(form);
+    size_t octets;
+    while (next_request(&octets)) {
+        bool edit = is_edit();
+        uint8_t mode = edit ? SAGBUWEN_EDITING : SAGBUWEN_QUIET;
+        if (edit) {
+            swap_memories();
+        }
+        sagbuwen_answer answer = print_reply(form, mode, octets);
+        if (answer.number != SAGBUWEN_ACCEPTED) {
+            bool same = edit ? draft_same() : running_same();
+            puts(same ? "no cell changed" : "cells changed");
+        }
+        check_request(form, mode, octets, answer);
+        if (edit) {
+            swap_memories();
+        }
     }
 }
 
@@ -405,6 +698,8 @@ struct attempt {
 
 static const struct attempt get_two = {"get", 10, {GET, 2, 1, 1, 1, 0, 1, 2, 16, 0}};
 static const struct attempt set_one = {"set", 8, {SET, 1, 0, 3, 1, 0, 0, 10}};
+static const struct attempt get_block = {"get block", 5, {GET_BLOCK, 0, 3, 1, 2}};
+static const struct attempt set_block = {"set block", 10, {SET_BLOCK, 0, 3, 1, 1, 1, 1, 80, 0, 1}};
 static const struct attempt open_edit = {"open", 1, {OPEN}};
 static const struct attempt abandon_edit = {"abandon", 1, {ABANDON}};
 
@@ -459,6 +754,10 @@ static void try_refusals(void)
         /* Modes that the operation is not taken in. */
         try_request(&get_two, form, right, 3);
         try_request(&set_one, form, right, SAGBUWEN_CHECKED);
+        try_request(&get_block, form, right, 3);
+        try_request(&get_block, form, right, SAGBUWEN_CHECKED);
+        try_request(&set_block, form, right, SAGBUWEN_QUIET);
+        try_request(&set_block, form, right, SAGBUWEN_CHECKED);
         try_request(&open_edit, form, right, SAGBUWEN_CHECKED);
         try_request(&abandon_edit, form, right, 255);
     }
@@ -471,10 +770,14 @@ int main(int argc, char **argv)
         run_script(WORDS);
     } else if (strcmp(what, "packed") == 0) {
         run_script(PACKED);
+    } else if (strcmp(what, "blocks-words") == 0) {
+        run_blocks(WORDS);
+    } else if (strcmp(what, "blocks-packed") == 0) {
+        run_blocks(PACKED);
     } else if (strcmp(what, "refusals") == 0) {
         try_refusals();
     } else {
-        fprintf(stderr, "usage: client words | packed | refusals\n");
+        fprintf(stderr, "usage: client words | packed | blocks-words | blocks-packed | refusals\n");
         return 2;
     }
     if (fflush(stdout) != 0 || ferror(stdout)) {

@@ -1,13 +1,14 @@
 #!/bin/sh
-# Builds the library and the C client, runs the script of the bench program on words and on packed memories, and compares
-# what the client prints with what the bench program prints; then the refusals.
-#   c/run.sh [SCRIPT EXPECTED]    both by default those of crates/bench
+# Builds the library and the C client, runs the scripts of the bench program and of the vectors program on words and on
+# packed memories, and compares what the client prints with what these programs print; then the refusals.
+#   c/run.sh [SCRIPT EXPECTED]    in place of those of crates/bench
 set -eu
 
 here=$(CDPATH='' cd "$(dirname "$0")" && pwd)
 root=${here%/*}
 script=${1-$root/crates/bench/stdin}
 expected=${2-$root/crates/bench/stdout}
+vectors=$root/crates/vectors
 out=$root/target/c
 archive=$root/target/staticlib/libcabinet.a
 mkdir -p "$out" "${archive%/*}"
@@ -46,5 +47,7 @@ build library
 build gcc -std=c99 -Wall -Wextra -Werror -O2 -I "$here" "$here/client.c" "$archive" -o "$out/client"
 run words "$script" "$expected"
 run packed "$script" "$expected"
+run blocks-words "$vectors/stdin" "$vectors/stdout"
+run blocks-packed "$vectors/stdin" "$vectors/stdout"
 run refusals /dev/null "$here/refusals.expected"
 verdict

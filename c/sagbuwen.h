@@ -39,7 +39,7 @@
  *   - Calls on different memories may run at the same time, calls on the same
  *     ones may not.
  *   - A request keeps two work lists on the stack, 4,288 octets together, and
- *     some 600 octets besides: allow it 5 KB of stack.
+ *     up to 1,700 octets besides: allow it 7 KB of stack.
  *
  * The library is built for x86-64 with the System V calling convention.
  */
@@ -70,11 +70,13 @@ extern "C" {
 /* What a call comes to. */
 #define SAGBUWEN_ACCEPTED 0
 #define SAGBUWEN_NO_ROOM 1      /* reply memory is shorter than 1,024 octets */
-#define SAGBUWEN_NO_SUCH 2      /* an address names no number of the table */
+#define SAGBUWEN_NO_SUCH 2      /* an address names no number of the table, or a
+                                   block's header no rows of it */
 #define SAGBUWEN_NOT_ALLOWED 3  /* a value is not allowed where it is to stand */
 #define SAGBUWEN_WRONG_MODE 5   /* the operation is not taken in this mode */
 #define SAGBUWEN_MALFORMED 6    /* no octets, an operation that is not known, a
-                                   count out of range, octets missing or over */
+                                   count out of range or not that of a block's
+                                   rows, octets missing or over */
 #define SAGBUWEN_WRONG_MEMORY 9 /* a memory has not the table's count of cells */
 
 /* What a call returns: a number from the list above, the mode after the call,
@@ -105,10 +107,17 @@ sagbuwen_answer sagbuwen_factory_start_packed(uint8_t *running, size_t running_o
  * Any other call replies. Behind the reply, reply memory is zero up to octet
  * 1,024; later octets are untouched. The reply's first octet is the number
  * returned. The reply to a refusal has four octets: the number; the layer of the
- * fault (1 the request's octets, 2 the mode, 4 its values); and its place, high
- * octet first: the offset in the request of the octet at fault or of the first
- * octet of the address or value at fault, or the request's length where octets are
- * missing. A refused request changes no cell and leaves the mode as it is.
+ * fault; and its place, high octet first: the offset in the request of the octet at
+ * fault or of the first octet of the address or value at fault, or the request's
+ * length where octets are missing. A refused request changes no cell and leaves the
+ * mode as it is.
+ *
+ *   layer                    number
+ *   1, the request's octets  6
+ *   2, the mode              5
+ *   3, a block's header      2: a data type, data ID, index or quantity that the
+ *                            table has not; 6: a count that is not that of the rows
+ *   4, values                2: an address; 3: a value
  *
  * Requests by their first octet; the mode is tested before the octets behind it:
  *
@@ -124,11 +133,39 @@ sagbuwen_answer sagbuwen_factory_start_packed(uint8_t *running, size_t running_o
  *   options with bits 2 and 3 both set are taken with bit 3 clear. Taken while
  *   editing, and leaves the mode so. It changes no cell of the running table.
  *
+ *   3, get block: a block's header without its count. The reply: 0, then the block of
+ *   these rows of the running table. Taken in every mode. It changes no cell.
+ *
+ *   4, set block: a block. The reply: 0. The draft takes its rows, all of them or
+ *   none, a vehicle detector's options as in a set. Taken while editing, and leaves
+ *   the mode so. It changes no cell of the running table.
+ *
  *   5, open: nothing behind it. The reply: 0. The draft's cells become those of
  *   the running table, and the mode becomes editing. Taken while quiet.
  *
  *   9, abandon: nothing behind it. The reply: 0. The mode becomes quiet; no cell
  *   changes. Taken while editing or checked.
+ *
+ * A block is a header, a count and rows of one family. Its octets are tested in
+ * order, and the first at fault decides. The header: the data type 0, the data ID,
+ * the first index to begin with and its quantity; for the data IDs 4 and 7 then the
+ * second index to begin with and its quantity. The count, which is the product of the
+ * quantities: 1 and one octet, or for 256 rows 2, 1 and 0. Then the rows, the first
+ * index innermost, by data ID:
+ *
+ *   0, phase 1 to 16: the columns 1 to 19, options*, ring, list of concurrent phases
+ *   1, vehicle detector 1 to 64: options, call phase, switch phase, delay*, extend,
+ *      queue limit, no activity, maximum presence, erratic counts, fail time
+ *   2, pedestrian detector 1 to 8: call phase, no activity, maximum presence, erratic
+ *      counts
+ *   3, pattern 1 to 32: cycle, offset, sequence number; the split number is not
+ *      carried, and a set block leaves it as it is
+ *   4, phase 1 to 16, then split 1 to 16: time, mode, coordinated
+ *   5, time base action 1 to 32: pattern, auxiliary function, special function
+ *   7, ring 1 to 4, then sequence 1 to 4: list of phases
+ *
+ * A number is one octet; those with a star are two, the high one first. A list is its
+ * length, at most 16, and as many octets; a set block leaves 0 in its other cells.
  */
 sagbuwen_answer sagbuwen_request_words(uint8_t mode,
                                        uint16_t *running, size_t running_words,

@@ -6,10 +6,12 @@ root=$(cd "$(dirname "$0")/.." && pwd -P) || exit 2
 work=$(mktemp -d) || exit 2
 trap 'rm -rf "$work"' EXIT
 bad=0
+# the unit, and what it is built on
+crates="memory lists tables replies values headers blocks families transfers block_requests unit"
 
 mkdir "$work/crates" || exit 2
 : >"$work/crates.txt"
-for name in memory lists tables replies transfers unit; do
+for name in $crates; do
     grep "^$name:" "$root/crates.txt" >>"$work/crates.txt" || exit 2
     mkdir "$work/crates/$name" || exit 2
     for part in src specs proofs; do
@@ -27,7 +29,7 @@ said_after_error() { # LOG
 try() { # NAME EXPECTED
     mkdir -p "$work/crates/$1/src"
     cp "$root/misuse/$1.rt.txt" "$work/crates/$1/src/lib.rt"
-    echo "$1: memory lists tables replies transfers unit" >>"$work/crates.txt"
+    echo "$1: $crates" >>"$work/crates.txt"
     (cd "$work/crates/$1" && rt check) >"$work/$1.log" 2>&1
     status=$?
     if [ "$2" = proved ]; then

@@ -1,4 +1,5 @@
-// The account of a session at the bench: a line that begins `# ` is words, any other a request to the unit.
+// The account of a session at the bench, where two units stand: a line that begins `# ` is words, one that begins `## ` is
+// words and turns to the other unit, any other is a request to the unit that was turned to.
 #![tactic(auto)]
 
 use bench_unit::BenchUnit;
@@ -8,10 +9,18 @@ use lines::spell;
 use readings::{Reading, read};
 use std::io;
 use std::io::BufReader;
+use std::mem::swap;
 
 mod layout;
 
 use layout::{NumberList, laid_out};
+
+// The unit that requests go to, and the other.
+#[derive(Drop)]
+struct Bench {
+    here: BenchUnit,
+    other: BenchUnit,
+}
 
 // What the reply says, and an empty line.
 fn tell_reply(rt: &HostRuntime, reply: &[u8]) -> io::Result<()> {
@@ -26,6 +35,7 @@ fn tell_reply(rt: &HostRuntime, reply: &[u8]) -> io::Result<()> {
             };
             println!(rt; "  answered: {list}\n")
         }
+        Reading::Block(id) => println!(rt; "  answered: a block, data ID {id}\n"),
         Reading::Refused(fault) => println!(rt; "  refused: {fault}\n"),
         Reading::Unclear => println!(rt; "  no reply of a unit\n"),
     }
@@ -49,16 +59,23 @@ fn tell_request(rt: &HostRuntime, unit: &mut BenchUnit, line: &LineBuffer) -> io
     tell_reply(rt, unit.reply(answer.length))
 }
 
-fn tell(rt: &HostRuntime, unit: &mut BenchUnit, line: &LineBuffer) -> io::Result<()> {
+fn tell(rt: &HostRuntime, bench: &mut Bench, line: &LineBuffer) -> io::Result<()> {
     match line.text() {
         [b'#', b' ', words @ ..] => rt.println(laid_out(rt.alloc(), words)?),
-        _ => tell_request(rt, unit, line),
+        [b'#', b'#', b' ', words @ ..] => {
+            swap(&mut bench.here, &mut bench.other);
+            rt.println(laid_out(rt.alloc(), words)?)
+        }
+        _ => tell_request(rt, &mut bench.here, line),
     }
 }
 
 fn main(rt: HostRuntime) -> io::Result<()> {
-    let mut unit = BenchUnit::at_factory();
+    let mut bench = Bench {
+        here: BenchUnit::at_factory(),
+        other: BenchUnit::at_factory(),
+    };
     each_line(BufReader::new(rt.alloc(), rt.stdin())?, |line| {
-        tell(&rt, &mut unit, line)
+        tell(&rt, &mut bench, line)
     })
 }

@@ -5,7 +5,7 @@ use Rattle.std.specs.Simd.{first_chunks}
 use Rattle.std.proofs.lemmas.List.{take_rest}
 use Rattle.transfers.specs.Gets.{two_octets}
 use Rattle.transfers.proofs.GetFacts.{length-octets}
-use Rattle.readings.specs.Replies.{numbers_reply, Says}
+use Rattle.readings.specs.Replies.{numbers_reply, block_reply, Says}
 use Rattle.readings.specs.declared.Reading.TheVariants.{Unclear}
 
 -- two octets and as many more as the second one says
@@ -17,13 +17,22 @@ as_numbers (a ∷ b ∷ xs) vs h z l t =
     let n : b ≡ length vs = omega (arith, length-octets vs, ap length rest) in
     cc
 
--- what is none of the three
+-- three octets at least, and the first two are 0
+pub as_block : (xs : List ℕ) (id : ℕ) → 3 ≤ length xs → get_or xs 0 0 ≡ 0 → get_or xs 1 0 ≡ 0 → get_or xs 2 0 ≡ id → (rest : List ℕ) × (xs ≡ block_reply id rest)
+as_block [] id h a b i = absurd (omega arith)
+as_block (x ∷ []) id h a b i = absurd (omega arith)
+as_block (x ∷ y ∷ []) id h a b i = absurd (omega arith)
+as_block (x ∷ y ∷ z ∷ xs) id h a b i = (xs, cc)
+
+-- what is none of the four
 pub unclear :
     (xs : List ℕ) → (length xs ≡ 1 → get_or xs 0 0 ≡ 0 → ⊥) → (2 ≤ length xs → get_or xs 0 0 ≡ 0 → length xs ≡ 2 + 2 * get_or xs 1 0 → ⊥)
+    → (3 ≤ length xs → get_or xs 0 0 ≡ 0 → get_or xs 1 0 ≡ 0 → ⊥)
     → (length xs ≡ 4 → 0 < get_or xs 0 0 → ⊥) → Says xs Unclear
-unclear xs done numbers refused = (
+unclear xs done numbers block refused = (
   λ e. done (ap length e) (ap (λ ys. get_or ys 0 0) e),
   λ vs e. numbers (omega (arith, ap length e)) (ap (λ ys. get_or ys 0 0) e) (omega (arith, length-octets vs, ap length e, ap (λ ys. get_or ys 1 0) e)),
+  λ id rest e. block (omega (arith, ap length e)) (ap (λ ys. get_or ys 0 0) e) (ap (λ ys. get_or ys 1 0) e),
   λ f h e. refused (ap length e) (omega (arith, ap (λ ys. get_or ys 0 0) e)),
 )
 

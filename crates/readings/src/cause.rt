@@ -10,6 +10,8 @@ use std::fmt;
 pub enum Cause {
     Octets,
     Mode,
+    Header,
+    Count,
     Address,
     Value,
 }
@@ -22,6 +24,8 @@ impl Fault {
         match (self.number, self.layer) {
             (6, 1) => Some(Cause::Octets),
             (5, 2) => Some(Cause::Mode),
+            (2, 3) => Some(Cause::Header),
+            (6, 3) => Some(Cause::Count),
             (2, 4) => Some(Cause::Address),
             (3, 4) => Some(Cause::Value),
             _ => None,
@@ -34,6 +38,8 @@ impl fmt::Display for Cause {
         f.write_str(match self {
             Cause::Octets => "the request's octets",
             Cause::Mode => "not taken in this mode",
+            Cause::Header => "a block's header that the table has not",
+            Cause::Count => "a count that is not that of the block's rows",
             Cause::Address => "an address that names no number",
             Cause::Value => "a value that is not allowed",
         })

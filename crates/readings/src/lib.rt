@@ -1,4 +1,5 @@
-// What a unit's reply says: that the request was accepted, with its numbers if it has any, or why it was refused.
+// What a unit's reply says: that the request was accepted, with its numbers or its block if it has any, or why it was
+// refused.
 #![tactic(auto)]
 
 ghost use Rattle.std.specs.Prelude.{◌≡◌, ◌%◌, length, IfOk};
@@ -23,6 +24,8 @@ pub enum Reading {
     // accepted, with nothing to tell
     Done,
     Numbers(Vec<u16>),
+    // the block of a family, by its data ID; its rows are not taken apart
+    Block(u8),
     Refused(Fault),
     // no reply that a unit gives
     Unclear,
@@ -49,6 +52,7 @@ pub fn read(heap: Global, reply: &[u8]) -> Result<Reading, AllocError>
         [0, count, values @ ..] if values.len() == 2 * usize::from(*count) => {
             Ok(Reading::Numbers(numbers_of(heap, values)?))
         },
+        [0, 0, id, ..] => Ok(Reading::Block(*id)),
         [number @ 1.., layer, high, low] => Ok(Reading::Refused(Fault {
             number: *number,
             layer: *layer,

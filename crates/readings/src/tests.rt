@@ -29,6 +29,13 @@ fn reads_that_it_is_done(rt: HostRuntime) -> Result<(), Fail> {
 }
 
 #[test]
+fn reads_a_block_by_its_family(rt: HostRuntime) -> Result<(), Fail> {
+    let block = [0, 0, 3, 1, 1, 1, 1, 80, 0, 1];
+    assert_eq!(rt; read(rt.alloc(), &block)?, Reading::Block(3));
+    Ok(())
+}
+
+#[test]
 fn no_other_octets_are_a_reply(rt: HostRuntime) -> Result<(), Fail> {
     let replies: [&[u8]; 5] = [&[], &[0, 1], &[0, 2, 0, 1], &[6, 1, 0], &[6, 1, 0, 0, 0]];
     for reply in replies {
@@ -52,5 +59,11 @@ fn tells_a_refusal_and_its_cause(rt: HostRuntime) -> Result<(), Fail> {
     fault.layer = 3;
     let told = format!(in rt.alloc(); "{fault}")?;
     assert_eq!(rt; told.as_str(), "5, layer 3, place 0");
+    fault.number = 6;
+    let told = format!(in rt.alloc(); "{fault}")?;
+    assert_eq!(rt;
+        told.as_str(),
+        "6, layer 3, place 0: a count that is not that of the block's rows"
+    );
     Ok(())
 }

@@ -1,20 +1,26 @@
 -- A request's octets taken apart, and its outcome laid into reply memory.
-use Rattle.std.proofs.Common.{◌≡◌, ℕ, ◌-◌, ◌<◌, ◌≤◌, true, false, ◌⊎◌, List, [], ◌∷◌, length, get_or, take, drop, Ok, Err, Result, sym, refl, ap, ◌∙◌, subst, ⊎_elim, arith, MatchResult}
+use Rattle.std.proofs.Common.{◌≡◌, ℕ, ◌-◌, ◌<◌, ◌≤◌, true, false, ◌⊎◌, List, [], ◌∷◌, length, get_or, take, drop, Ok, Err, Result, sym, refl, ap, ◌∙◌, subst, inl, inr, ⊎_elim, arith, MatchResult, ◌≢◌}
 use Rattle.std.proofs.lemmas.List.{take_rest, nil_from_length}
 use Rattle.transfers.specs.declared.refusal.Refusal.{Refusal}
-use Rattle.transfers.specs.declared.refusal.Refusal.TheVariants.{MemoryCount, Room, EmptyRequest, UnknownOperation, Mode, ItemCount, Missing, Over, NoNumber, NotAllowed}
+use Rattle.transfers.specs.declared.refusal.Refusal.TheVariants.{MemoryCount, Room, EmptyRequest, UnknownOperation, Mode, ItemCount, Missing, Over, NoNumber, NotAllowed, NotInTable, CountDiffers}
 use Rattle.transfers.specs.Refusals.{number_of, unanswered}
 use Rattle.transfers.specs.Items.{Miscounted, count_in, address_place}
 use Rattle.transfers.specs.Items.Miscounted.{no_count, out_of_range, missing, over}
 use Rattle.replies.specs.declared.Reply.{Reply}
 use Rattle.replies.specs.Replies.{Fresh, Grew, SamePastRoom}
 use Rattle.replies.proofs.ReplyFacts.{grew_past}
-use Rattle.transfers.specs.Gets.{accepted, refused, Got, two_octets}
+use Rattle.transfers.specs.Gets.{Outcome, accepted, refused, Got, two_octets}
 use Rattle.transfers.specs.Gets.Got.{miscounted, nameless, values}
 use Rattle.transfers.specs.Sets.{ItemFault, SetTo}
 use Rattle.transfers.specs.Sets.ItemFault.{nameless as item-nameless, not_allowed}
 use Rattle.transfers.specs.Sets.SetTo.{miscounted as set-miscounted, faulty, taken}
 use Rattle.transfers.proofs.GetFacts.{length-octets}
+use Rattle.values.specs.declared.Fault.{Fault}
+use Rattle.values.specs.declared.Fault.TheVariants.{NotInTable as BadHeader, CountDiffers as BadCount, NotAllowed as BadValue, Over as TooMany, Missing as TooFew}
+use Rattle.block_requests.specs.Faults.{refusal_of}
+use Rattle.block_requests.specs.Transfers.{GotBlock, SetBlockTo}
+use Rattle.block_requests.specs.Transfers.GotBlock.{faulty as block-faulty, block}
+use Rattle.block_requests.specs.Transfers.SetBlockTo.{faulty as rows-faulty, taken as rows_taken}
 use Rattle.unit.specs.declared.operation.Operation.{Operation}
 use Rattle.unit.specs.Operations.{code_of, takes_mode}
 use Rattle.memory.specs.Top.{cell_count}
@@ -64,30 +70,55 @@ refused_set before body after e (set-miscounted d m r a) = let s : e ≡ d = cc 
 refused_set before body after e (faulty k d w f r a) = let s : e ≡ d = cc in ap unanswered s ∙ fault_answered body k d f.here
 refused_set before body after e (taken ws w x r t) = let z : ◌≡◌ {A = ℕ} 0 1 = cc in absurd (omega arith)
 
--- a set on a draft of the right count, with room enough
-pub set_here :
-    (before : List ℕ) (room : ℕ) (body : List ℕ) (r : Result (Unit {0}) Refusal) (after : List ℕ)
-    → length before ≡ cell_count → 1024 ≤ room
-    → MatchResult r (λ _. SetTo before body (accepted (0 ∷ [])) after) (λ e. SetTo before body (refused e) after)
-    → SetHere before room body r after
-set_here before room body (Ok u) after n h s = set-done n h refl s
-set_here before room body (Err e) after n h s = turned_away e n h refl s
+-- an edit of a draft of the right count, with room enough
+module _ {SetTo : Outcome → Type 0} where
+  pub set_here :
+      (before : List ℕ) (room : ℕ) (r : Result (Unit {0}) Refusal) (after : List ℕ)
+      → length before ≡ cell_count → 1024 ≤ room
+      → MatchResult r (λ _. SetTo (accepted (0 ∷ []))) (λ e. SetTo (refused e))
+      → SetHere SetTo before room r after
+  set_here before room (Ok u) after n h s = set-done n h refl s
+  set_here before room (Err e) after n h s = turned_away e n h refl s
 
-pub set_refused :
-    (before body after : List ℕ) (room : ℕ) (r : Result (Unit {0}) Refusal) (e : Refusal)
-    → length before ≡ cell_count → 1024 ≤ room → SetHere before room body r after → r ≡ Err e → SetTo before body (refused e) after
-set_refused before body after room r e n h (wrong_count m q a) x = absurd (m n)
-set_refused before body after room r e n h (no_room m l q a) x = absurd (omega arith)
-set_refused before body after room r e n h (turned_away d m l q s) x = let w : d ≡ e = cc in subst (λ y. SetTo before body (refused y) after) w s
-set_refused before body after room r e n h (set-done m l q s) x = let z : ◌≡◌ {A = ℕ} 0 1 = cc in absurd (omega arith)
+  -- and one that was not ready
+  pub not_here :
+      (before : List ℕ) (room : ℕ) (r : Result (Unit {0}) Refusal) (e : Refusal)
+      → ((length before ≢ cell_count) × (e ≡ MemoryCount)) ⊎ ((length before ≡ cell_count) × (room < 1024) × (e ≡ Room))
+      → r ≡ Err e → SetHere SetTo before room r before
+  not_here before room r e (inl x) q = wrong_count x.0 (q ∙ ap Err x.1) refl
+  not_here before room r e (inr x) q = no_room x.0 x.1 (q ∙ ap Err x.2) refl
 
-pub set_accepted :
-    (before body after : List ℕ) (room : ℕ) (r : Result (Unit {0}) Refusal) (u : Unit {0})
-    → length before ≡ cell_count → 1024 ≤ room → SetHere before room body r after → r ≡ Ok u → SetTo before body (accepted (0 ∷ [])) after
-set_accepted before body after room r u n h (wrong_count m q a) x = absurd (m n)
-set_accepted before body after room r u n h (no_room m l q a) x = absurd (omega arith)
-set_accepted before body after room r u n h (turned_away d m l q s) x = let z : ◌≡◌ {A = ℕ} 0 1 = cc in absurd (omega arith)
-set_accepted before body after room r u n h (set-done m l q s) x = s
+  pub set_refused :
+      (before after : List ℕ) (room : ℕ) (r : Result (Unit {0}) Refusal) (e : Refusal)
+      → length before ≡ cell_count → 1024 ≤ room → SetHere SetTo before room r after → r ≡ Err e → SetTo (refused e)
+  set_refused before after room r e n h (wrong_count m q a) x = absurd (m n)
+  set_refused before after room r e n h (no_room m l q a) x = absurd (omega arith)
+  set_refused before after room r e n h (turned_away d m l q s) x = let w : d ≡ e = cc in subst (λ y. SetTo (refused y)) w s
+  set_refused before after room r e n h (set-done m l q s) x = let z : ◌≡◌ {A = ℕ} 0 1 = cc in absurd (omega arith)
+
+  pub set_accepted :
+      (before after : List ℕ) (room : ℕ) (r : Result (Unit {0}) Refusal) (u : Unit {0})
+      → length before ≡ cell_count → 1024 ≤ room → SetHere SetTo before room r after → r ≡ Ok u → SetTo (accepted (0 ∷ []))
+  set_accepted before after room r u n h (wrong_count m q a) x = absurd (m n)
+  set_accepted before after room r u n h (no_room m l q a) x = absurd (omega arith)
+  set_accepted before after room r u n h (turned_away d m l q s) x = let z : ◌≡◌ {A = ℕ} 0 1 = cc in absurd (omega arith)
+  set_accepted before after room r u n h (set-done m l q s) x = s
+
+-- a refused block has a reply
+block_answered : (n : ℕ) (w : Fault) → unanswered (refusal_of n w) ≡ false
+block_answered n (BadHeader k) = refl
+block_answered n (BadCount k) = refl
+block_answered n (BadValue k) = refl
+block_answered n (TooMany k) = refl
+block_answered n TooFew = refl
+
+pub refused_get_block : (cells body : List ℕ) (e : Refusal) → GotBlock cells body (refused e) → unanswered e ≡ false
+refused_get_block cells body e (block-faulty w f r) = let s : e ≡ refusal_of (length body) w = cc in ap unanswered s ∙ block_answered (length body) w
+refused_get_block cells body e (block f os n b r) = let z : ◌≡◌ {A = ℕ} 0 1 = cc in absurd (omega arith)
+
+pub refused_set_block : (before body after : List ℕ) (e : Refusal) → SetBlockTo before body (refused e) after → unanswered e ≡ false
+refused_set_block before body after e (rows-faulty w f r a) = let s : e ≡ refusal_of (length body) w = cc in ap unanswered s ∙ block_answered (length body) w
+refused_set_block before body after e (rows_taken f ws n b r t) = let z : ◌≡◌ {A = ℕ} 0 1 = cc in absurd (omega arith)
 
 -- a refusal that has a reply is none of the two that have none
 pub answered_number : (e : Refusal) → unanswered e ≡ false → (number_of e ≡ 9) ⊎ (number_of e ≡ 1) → ⊥
@@ -101,6 +132,8 @@ answered_number (Missing k) a n = ⊎_elim (λ x. omega arith) (λ x. omega arit
 answered_number (Over k) a n = ⊎_elim (λ x. omega arith) (λ x. omega arith) n
 answered_number (NoNumber k) a n = ⊎_elim (λ x. omega arith) (λ x. omega arith) n
 answered_number (NotAllowed k) a n = ⊎_elim (λ x. omega arith) (λ x. omega arith) n
+answered_number (NotInTable k) a n = ⊎_elim (λ x. omega arith) (λ x. omega arith) n
+answered_number (CountDiffers k) a n = ⊎_elim (λ x. omega arith) (λ x. omega arith) n
 
 -- a reply of one octet leaves what stands past the room
 pub one_past : {b a : Reply} {x : ℕ} → Fresh b → Grew b a (x ∷ []) → SamePastRoom b a

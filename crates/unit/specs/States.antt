@@ -4,8 +4,7 @@ use Rattle.memory.specs.Top.{cell_count}
 use Rattle.tables.specs.Factory.{factory}
 use Rattle.transfers.specs.declared.refusal.Refusal.{Refusal}
 use Rattle.transfers.specs.declared.refusal.Refusal.TheVariants.{MemoryCount, Room}
-use Rattle.transfers.specs.Gets.{accepted, refused}
-use Rattle.transfers.specs.Sets.{SetTo}
+use Rattle.transfers.specs.Gets.{Outcome, accepted, refused}
 use Rattle.unit.specs.declared.states.State.{State}
 use Rattle.unit.specs.declared.states.Unopened.{Unopened}
 
@@ -39,9 +38,9 @@ pub record NotOpened (q : State 0) (running before after : List ℕ) (u : Unopen
   pub state : u.state ≡ q
   pub refusal : u.refusal ≡ MemoryCount
 
--- a set on a draft of any count, with room for any number of writes
-pub data SetHere (before : List ℕ) (room : ℕ) (body : List ℕ) (r : Result (Unit {0}) Refusal) (after : List ℕ) : Type 0 where
-  wrong_count : (length before ≢ cell_count) → r ≡ Err MemoryCount → after ≡ before → SetHere before room body r after
-  no_room : length before ≡ cell_count → room < 1024 → r ≡ Err Room → after ≡ before → SetHere before room body r after
-  turned_away : (e : Refusal) → length before ≡ cell_count → 1024 ≤ room → r ≡ Err e → SetTo before body (refused e) after → SetHere before room body r after
-  done : length before ≡ cell_count → 1024 ≤ room → r ≡ Ok tt → SetTo before body (accepted (0 ∷ [])) after → SetHere before room body r after
+-- an edit of a draft of any count, with room for any number of writes
+pub data SetHere (SetTo : Outcome → Type 0) (before : List ℕ) (room : ℕ) (r : Result (Unit {0}) Refusal) (after : List ℕ) : Type 0 where
+  wrong_count : (length before ≢ cell_count) → r ≡ Err MemoryCount → after ≡ before → SetHere SetTo before room r after
+  no_room : length before ≡ cell_count → room < 1024 → r ≡ Err Room → after ≡ before → SetHere SetTo before room r after
+  turned_away : (e : Refusal) → length before ≡ cell_count → 1024 ≤ room → r ≡ Err e → SetTo (refused e) → SetHere SetTo before room r after
+  done : length before ≡ cell_count → 1024 ≤ room → r ≡ Ok tt → SetTo (accepted (0 ∷ [])) → SetHere SetTo before room r after

@@ -9,9 +9,10 @@ use Rattle.transfers.specs.declared.refusal.Refusal.TheVariants.{MemoryCount, Ro
 use Rattle.transfers.specs.Refusals.{number_of, unanswered, refusal_octets}
 use Rattle.transfers.specs.Gets.{Outcome, accepted, refused, Got}
 use Rattle.transfers.specs.Sets.{SetTo}
+use Rattle.block_requests.specs.Transfers.{GotBlock, SetBlockTo}
 use Rattle.unit.specs.declared.answer.Answer.{Answer}
 use Rattle.unit.specs.declared.operation.Operation.{Operation}
-use Rattle.unit.specs.declared.operation.Operation.TheVariants.{Get, Set, Open, Abandon}
+use Rattle.unit.specs.declared.operation.Operation.TheVariants.{Get, Set, GetBlock, SetBlock, Open, Abandon}
 use Rattle.unit.specs.Operations.{code_of, takes_mode}
 
 -- a factory start writes the factory table, or is refused for the count and changes no cell
@@ -54,13 +55,13 @@ pub record Same (s t : Moment) : Type 0 where
   pub draft : t.draft ≡ s.draft
   pub mode : t.mode ≡ s.mode
 
--- a get answers from the running table and changes nothing
-pub record Gets (s : Moment) (body : List ℕ) (o : Outcome) (t : Moment) : Type 0 where
+-- a request that answers from the running table changes nothing
+pub record Reads (Got : List ℕ → List ℕ → Outcome → Type 0) (s : Moment) (body : List ℕ) (o : Outcome) (t : Moment) : Type 0 where
   pub got : Got s.running body o
   pub same : Same s t
 
--- a set changes the draft alone
-pub record Sets (s : Moment) (body : List ℕ) (o : Outcome) (t : Moment) : Type 0 where
+-- a request that edits changes the draft alone
+pub record Edits (SetTo : List ℕ → List ℕ → Outcome → List ℕ → Type 0) (s : Moment) (body : List ℕ) (o : Outcome) (t : Moment) : Type 0 where
   pub draft : SetTo s.draft body o t.draft
   pub running : t.running ≡ s.running
   pub mode : t.mode ≡ s.mode
@@ -91,8 +92,10 @@ Replied Is r before after =
 
 -- what each operation does; the body is what follows its octet
 abbrev pub Does : Operation → Moment → List ℕ → Outcome → Moment → Type 0
-Does Get = Gets
-Does Set = Sets
+Does Get = Reads Got
+Does Set = Edits SetTo
+Does GetBlock = Reads GotBlock
+Does SetBlock = Edits SetBlockTo
 Does Open = Opens
 Does Abandon = Abandons
 

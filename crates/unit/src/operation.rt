@@ -8,6 +8,8 @@ use transfers::refusal::Refusal;
 pub enum Operation {
     Get,
     Set,
+    GetBlock,
+    SetBlock,
     Open,
     Abandon,
 }
@@ -21,6 +23,8 @@ impl TryFrom<u8> for Operation {
         match octet {
             1 => Ok(Operation::Get),
             2 => Ok(Operation::Set),
+            3 => Ok(Operation::GetBlock),
+            4 => Ok(Operation::SetBlock),
             5 => Ok(Operation::Open),
             9 => Ok(Operation::Abandon),
             _ => Err(Refusal::UnknownOperation),
@@ -34,8 +38,8 @@ impl Operation {
         ensures { result ≡ takes_mode self mode }
     {
         match self {
-            Operation::Get => mode <= 2,
-            Operation::Set => mode == 1,
+            Operation::Get | Operation::GetBlock => mode <= 2,
+            Operation::Set | Operation::SetBlock => mode == 1,
             Operation::Open => mode == 0,
             Operation::Abandon => matches!(mode, 1 | 2),
         }

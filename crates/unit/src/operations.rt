@@ -1,14 +1,18 @@
 // What each operation of a request does.
 ghost use Rattle.std.specs.Prelude.{◌≡◌, ◌≤◌, true, length, MatchOption, ◌≢◌};
 ghost use Rattle.replies.specs.Replies.{Fresh, SamePastRoom};
-ghost use Rattle.unit.specs.declared.operation.Operation.TheVariants.{Set, Open, Abandon};
+ghost use Rattle.transfers.specs.Gets.{Got};
+ghost use Rattle.transfers.specs.Sets.{SetTo};
+ghost use Rattle.block_requests.specs.Transfers.{GotBlock, SetBlockTo};
+ghost use Rattle.unit.specs.declared.operation.Operation.TheVariants.{Set, SetBlock, Open, Abandon};
 ghost use Rattle.unit.specs.Operations.{takes_mode};
-ghost use Rattle.unit.specs.Steps.{Abandons, Answered, Gets, Opens, Replied, Sets};
+ghost use Rattle.unit.specs.Steps.{Abandons, Answered, Edits, Opens, Reads, Replied};
 ghost use Rattle.unit.specs.Calls.{Kept, Sound, here};
 
 use super::call::UnitCall;
 use super::operation::Operation;
 use super::states::{Checked, Editing, Quiet};
+use block_requests::get_block::get_block;
 use memory::ParameterMemory;
 use replies::Reply;
 use tables::work::StagedWrite;
@@ -35,7 +39,7 @@ impl<R: ParameterMemory, D: ParameterMemory> UnitCall<'_, '_, R, D> {
         ensures sound { Sound R.ParameterMemory D.ParameterMemory self.new }
         ensures kept { Kept R.ParameterMemory D.ParameterMemory self.old self.new }
         ensures past { SamePastRoom reply.old reply.new }
-        ensures outcome { Replied (λ o. Gets (here R.ParameterMemory D.ParameterMemory self.old) body.now o (here R.ParameterMemory D.ParameterMemory self.new)) result reply.old reply.new }
+        ensures outcome { Replied (λ o. Reads Got (here R.ParameterMemory D.ParameterMemory self.old) body.now o (here R.ParameterMemory D.ParameterMemory self.new)) result reply.old reply.new }
     {
         get(self.running, body, reply)
     }
@@ -54,12 +58,51 @@ impl<R: ParameterMemory, D: ParameterMemory> UnitCall<'_, '_, R, D> {
         ensures sound { Sound R.ParameterMemory D.ParameterMemory self.new }
         ensures kept { Kept R.ParameterMemory D.ParameterMemory self.old self.new }
         ensures past { SamePastRoom reply.old reply.new }
-        ensures outcome { Replied (λ o. Sets (here R.ParameterMemory D.ParameterMemory self.old) body.now o (here R.ParameterMemory D.ParameterMemory self.new)) result reply.old reply.new }
+        ensures outcome { Replied (λ o. Edits SetTo (here R.ParameterMemory D.ParameterMemory self.old) body.now o (here R.ParameterMemory D.ParameterMemory self.new)) result reply.old reply.new }
     {
         let Some(editing) = Editing::from_mode(self.mode) else {
             return Err(Refusal::Mode);
         };
         let set = editing.set(self.draft, body, writes);
+        self.mode = editing.into_mode();
+        set?;
+        reply.put(0);
+        Ok(())
+    }
+
+    // Answers a get block, from the running table.
+    fn get_block(&mut self, body: &[u8], reply: &mut Reply) -> Result<(), Refusal>
+        requires sound { Sound R.ParameterMemory D.ParameterMemory self.old }
+        requires fresh { Fresh reply.old }
+        ensures sound { Sound R.ParameterMemory D.ParameterMemory self.new }
+        ensures kept { Kept R.ParameterMemory D.ParameterMemory self.old self.new }
+        ensures past { SamePastRoom reply.old reply.new }
+        ensures outcome { Replied (λ o. Reads GotBlock (here R.ParameterMemory D.ParameterMemory self.old) body.now o (here R.ParameterMemory D.ParameterMemory self.new)) result reply.old reply.new }
+    {
+        get_block(self.running, body, reply)
+    }
+
+    // Has the draft take a block's rows. Beside `set`, since one function over both is no plainer: it would take the call
+    // as a closure, and what the call means as a ghost.
+    fn set_block(
+        &mut self,
+        body: &[u8],
+        writes: &mut [StagedWrite],
+        reply: &mut Reply,
+    ) -> Result<(), Refusal>
+        requires sound { Sound R.ParameterMemory D.ParameterMemory self.old }
+        requires fresh { Fresh reply.old }
+        requires room { 1024 ≤ length writes.old }
+        requires taken { takes_mode SetBlock self.old.mode ≡ true }
+        ensures sound { Sound R.ParameterMemory D.ParameterMemory self.new }
+        ensures kept { Kept R.ParameterMemory D.ParameterMemory self.old self.new }
+        ensures past { SamePastRoom reply.old reply.new }
+        ensures outcome { Replied (λ o. Edits SetBlockTo (here R.ParameterMemory D.ParameterMemory self.old) body.now o (here R.ParameterMemory D.ParameterMemory self.new)) result reply.old reply.new }
+    {
+        let Some(editing) = Editing::from_mode(self.mode) else {
+            return Err(Refusal::Mode);
+        };
+        let set = editing.set_block(self.draft, body, writes);
         self.mode = editing.into_mode();
         set?;
         reply.put(0);
@@ -135,6 +178,8 @@ impl<R: ParameterMemory, D: ParameterMemory> UnitCall<'_, '_, R, D> {
         match operation {
             Operation::Get => self.get(body, reply),
             Operation::Set => self.set(body, writes, reply),
+            Operation::GetBlock => self.get_block(body, reply),
+            Operation::SetBlock => self.set_block(body, writes, reply),
             Operation::Open => self.open(body, reply),
             Operation::Abandon => self.abandon(body, reply),
         }

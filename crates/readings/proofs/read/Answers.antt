@@ -8,4 +8,4 @@ returns-in_ok-numbers_of-in-0-2 c = as_numbers c.args.reply.now _ (search rules)
 
 pub returns-in_default : goal.returns-in_default
 returns-in_default c =
-    unclear _ (λ l z. grind (arith, common_steps)) (λ h z l. grind (arith, common_steps)) (λ l z. grind (arith, common_steps))
+    unclear _ (λ l z. grind (arith, common_steps)) (λ h z l. grind (arith, common_steps)) (λ h z b. grind (arith, common_steps)) (λ l z. grind (arith, common_steps))

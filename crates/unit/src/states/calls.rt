@@ -1,10 +1,15 @@
 // The calls that each state has.
-ghost use Rattle.std.specs.Prelude.{length, MatchResult, ◌≡◌};
+ghost use Rattle.std.specs.Prelude.{◌≡◌, ◌<◌, ◌≤◌, ◌⊎◌, length, MatchResult, ◌≢◌};
+ghost use Rattle.memory.specs.Top.{cell_count};
 ghost use Rattle.memory.specs.Uses.{CellsAlone, OnlyRead};
+ghost use Rattle.transfers.specs.declared.refusal.Refusal.TheVariants.{MemoryCount, Room};
+ghost use Rattle.transfers.specs.Sets.{SetTo};
+ghost use Rattle.block_requests.specs.Transfers.{SetBlockTo};
 ghost use Rattle.unit.specs.States.{Opened, NotOpened, SetHere};
 
 use super::{Editing, Quiet, State, Unopened};
 use crate::request::WRITES;
+use block_requests::set_block::set_block;
 use memory::copy::copy_cells;
 use memory::{CELLS, ParameterMemory};
 use tables::work::StagedWrite;
@@ -43,6 +48,22 @@ impl State<0> {
     }
 }
 
+// What every edit needs: a draft with the table's count of cells, and room for its writes.
+fn ready<D: ParameterMemory>(draft: &D, writes: &[StagedWrite]) -> Result<(), Refusal>
+    requires { D.sound draft.now }
+    ensures { MatchResult result
+        (λ _. (length (D.cells draft.now) ≡ cell_count) × (1024 ≤ length writes.now))
+        (λ e. ((length (D.cells draft.now) ≢ cell_count) × (e ≡ MemoryCount)) ⊎ ((length (D.cells draft.now) ≡ cell_count) × (length writes.now < 1024) × (e ≡ Room))) }
+{
+    if draft.count() != CELLS {
+        return Err(Refusal::MemoryCount);
+    }
+    if writes.len() < WRITES {
+        return Err(Refusal::Room);
+    }
+    Ok(())
+}
+
 impl State<1> {
     // Has the draft take the items of a set: the body is what follows the operation's octet.
     pub fn set<D: ParameterMemory>(
@@ -53,15 +74,25 @@ impl State<1> {
     ) -> Result<(), Refusal>
         requires sound { D.sound draft.old }
         ensures rest { CellsAlone D.ParameterMemory draft.old draft.new }
-        ensures outcome { SetHere (D.cells draft.old) (length writes.old) body.now result (D.cells draft.new) }
+        ensures outcome { SetHere (λ o. SetTo (D.cells draft.old) body.now o (D.cells draft.new)) (D.cells draft.old) (length writes.old) result (D.cells draft.new) }
     {
-        if draft.count() != CELLS {
-            return Err(Refusal::MemoryCount);
-        }
-        if writes.len() < WRITES {
-            return Err(Refusal::Room);
-        }
+        ready(draft, writes)?;
         set_items(draft, body, writes)
+    }
+
+    // Has the draft take the rows of a block: the body is what follows the operation's octet.
+    pub fn set_block<D: ParameterMemory>(
+        &self,
+        draft: &mut D,
+        body: &[u8],
+        writes: &mut [StagedWrite],
+    ) -> Result<(), Refusal>
+        requires sound { D.sound draft.old }
+        ensures rest { CellsAlone D.ParameterMemory draft.old draft.new }
+        ensures outcome { SetHere (λ o. SetBlockTo (D.cells draft.old) body.now o (D.cells draft.new)) (D.cells draft.old) (length writes.old) result (D.cells draft.new) }
+    {
+        ready(draft, writes)?;
+        set_block(draft, body, writes)
     }
 
     // Gives the edit up.

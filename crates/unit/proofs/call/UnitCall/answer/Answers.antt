@@ -1,6 +1,6 @@
 use Rattle.std.proofs.Common.{◌≡◌, ◌≤◌, true, length, sym, refl, ap, ◌∙◌, rules}
 use Rattle.std.proofs.lemmas.Result.{err_from_is_err_and}
-use Rattle.unit.specs.declared.operation.Operation.TheVariants.{Get, Set, Open, Abandon}
+use Rattle.unit.specs.declared.operation.Operation.TheVariants.{Get, Set, GetBlock, SetBlock, Open, Abandon}
 use Rattle.unit.specs.Operations.{takes_mode}
 use Rattle.unit.specs.Steps.Answered.{unknown, not_taken}
 use Rattle.unit.proofs.RequestFacts.{first_and_rest, coded, did}
@@ -34,6 +34,20 @@ returns-in-Set-clause-outcome g c =
     let octets = coded c.args.octets.now c.in_ok-operation.operation Set some c.in_ok-operation.ensures c.in-Set.is in
     let mode : takes_mode Set c.args.self.now.mode ≡ true = ap (λ p. takes_mode p c.args.self.now.mode) (sym c.in-Set.is) ∙ sym c.if-not-takes_mode.ensures in
     did Set _ _ _ _ c.set.result c.args.reply.now c.set.new.reply octets mode c.set.ensures.outcome
+
+pub returns-in-GetBlock-clause-outcome : goal.returns-in-GetBlock-clause-outcome
+returns-in-GetBlock-clause-outcome g c =
+    let some : 1 ≤ length c.args.octets.now = search rules in
+    let octets = coded c.args.octets.now c.in_ok-operation.operation GetBlock some c.in_ok-operation.ensures c.in-GetBlock.is in
+    let mode : takes_mode GetBlock c.args.self.now.mode ≡ true = ap (λ p. takes_mode p c.args.self.now.mode) (sym c.in-GetBlock.is) ∙ sym c.if-not-takes_mode.ensures in
+    did GetBlock _ _ _ _ c.get_block.result c.args.reply.now c.get_block.new.reply octets mode c.get_block.ensures.outcome
+
+pub returns-in-SetBlock-clause-outcome : goal.returns-in-SetBlock-clause-outcome
+returns-in-SetBlock-clause-outcome g c =
+    let some : 1 ≤ length c.args.octets.now = search rules in
+    let octets = coded c.args.octets.now c.in_ok-operation.operation SetBlock some c.in_ok-operation.ensures c.in-SetBlock.is in
+    let mode : takes_mode SetBlock c.args.self.now.mode ≡ true = ap (λ p. takes_mode p c.args.self.now.mode) (sym c.in-SetBlock.is) ∙ sym c.if-not-takes_mode.ensures in
+    did SetBlock _ _ _ _ c.set_block.result c.args.reply.now c.set_block.new.reply octets mode c.set_block.ensures.outcome
 
 pub returns-in-Open-clause-outcome : goal.returns-in-Open-clause-outcome
 returns-in-Open-clause-outcome g c =

@@ -3,9 +3,10 @@
 #![tactic(auto)]
 
 use lines::buffer::LineBuffer;
-use lines::{LONGEST_LINE, spell};
+use lines::input::each_line;
+use lines::spell;
 use std::io;
-use std::io::{BufReader, Read};
+use std::io::BufReader;
 
 mod desk;
 #[cfg(test)]
@@ -14,14 +15,13 @@ mod tests;
 use desk::Desk;
 
 fn answer(rt: &HostRuntime, desk: &mut Desk, line: &LineBuffer) -> io::Result<()> {
-    let mut octets = [0; LONGEST_LINE];
-    let Some(count) = line.octets(&mut octets) else {
+    let Some(octets) = line.octets() else {
         return println!(rt; "bad line");
     };
     let before = desk.table;
-    let answer = match &octets[0..count] {
-        [2 | 4, ..] => desk.edit(&octets[0..count]),
-        _ => desk.read(&octets[0..count]),
+    let answer = match octets.as_slice() {
+        [2 | 4, ..] => desk.edit(&octets),
+        _ => desk.read(&octets),
     };
     let reply = spell(rt.alloc(), desk.reply(answer.length))?;
     println!(rt; "{reply}")?;
@@ -37,18 +37,7 @@ fn answer(rt: &HostRuntime, desk: &mut Desk, line: &LineBuffer) -> io::Result<()
 
 fn main(rt: HostRuntime) -> io::Result<()> {
     let mut desk = Desk::at_factory();
-    let mut line = LineBuffer::new();
-    for byte in BufReader::new(rt.alloc(), rt.stdin())?.bytes() {
-        match byte? {
-            b'\n' => {
-                answer(&rt, &mut desk, &line)?;
-                line.clear();
-            }
-            other => line.push(other),
-        }
-    }
-    if line.is_empty() {
-        return Ok(());
-    }
-    answer(&rt, &mut desk, &line)
+    each_line(BufReader::new(rt.alloc(), rt.stdin())?, |line| {
+        answer(&rt, &mut desk, line)
+    })
 }

@@ -1,6 +1,6 @@
 use Rattle.std.proofs.Common.{◌≡◌, length, min, take, ap, ◌∙◌, arith, rules}
 use Rattle.std.proofs.lemmas.List.{take_min}
-use Rattle.bench_unit.proofs.BenchUnit.reply.Goals as goal
+use Rattle.bench_unit.proofs.LentMemory.reply.Goals as goal
 
 pub returns : goal.returns
 returns c =
