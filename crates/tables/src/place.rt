@@ -27,6 +27,9 @@ impl Column {
     }
 }
 
+// The table of columns where it stands once, and is not made again for each look-up.
+static STORED: [Column; 47] = COLUMNS;
+
 impl FamilyId {
     // The family's column of this number, counted from 1.
     pub fn column(self, number: u8) -> Option<Column>
@@ -36,7 +39,7 @@ impl FamilyId {
         if !(1..=shape.columns).contains(&number) {
             return None;
         }
-        Some(COLUMNS[shape.columns_before + usize::from(number - 1)])
+        Some(STORED[shape.columns_before + usize::from(number - 1)])
     }
 }
 
