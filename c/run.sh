@@ -40,8 +40,8 @@ run() {
     fi
 }
 
-# Builds the entries of the crate cabinet, which C links as libcabinet.a.
-library() { (cd "$root/crates/cabinet" && rt lib && cp out/libcabinet.a "$archive"); }
+# Builds the entries of the crate cabinet_c, which C links as libcabinet.a.
+library() { (cd "$root/crates/cabinet_c" && rt lib && cp out/libcabinet_c.a "$archive"); }
 
 build library
 build gcc -std=c99 -Wall -Wextra -Werror -O2 -I "$here" "$here/client.c" "$archive" -o "$out/client"

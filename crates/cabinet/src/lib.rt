@@ -1,6 +1,7 @@
 // The unit as a cabinet's firmware calls it from C: a factory start and a request, each on memories of words and on
 // packed ones. Memory of any length and any mode is answered. The firmware owns all memory but the work lists, which a
-// request keeps on the stack. Each entry stands for words and for packed octets, since C names a function for each.
+// request keeps on the stack. Each entry stands for words and for packed octets, since C names a function for each. A library
+// exports nothing to C: `cabinet_c` does, by a call of each entry here.
 #![tactic(auto)]
 
 ghost use Rattle.std.specs.Prelude.{◌≡◌, length};
