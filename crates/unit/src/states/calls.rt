@@ -18,7 +18,9 @@ use transfers::set::set_items;
 
 impl State<0> {
     // The state that a unit begins in.
-    pub(crate) fn new() -> Quiet {
+    pub(crate) fn new() -> Quiet
+        ensures { result.mode ≡ 0 }
+    {
         State { mode: 0 }
     }
 
@@ -96,19 +98,25 @@ impl State<1> {
     }
 
     // Gives the edit up.
-    pub fn abandon(self) -> Quiet {
+    pub fn abandon(self) -> Quiet
+        ensures { result.mode ≡ 0 }
+    {
         self.next()
     }
 }
 
 impl State<2> {
     // Goes on with the edit, which is then unchecked.
-    pub fn resume(self) -> Editing {
+    pub fn resume(self) -> Editing
+        ensures { result.mode ≡ 1 }
+    {
         self.next()
     }
 
     // Gives the edit up.
-    pub fn abandon(self) -> Quiet {
+    pub fn abandon(self) -> Quiet
+        ensures { result.mode ≡ 0 }
+    {
         self.next()
     }
 }
