@@ -1,4 +1,4 @@
 mod Ahead
 mod Held
-mod Pairs
+mod Reading
 mod Spells

@@ -2,7 +2,9 @@
 use Rattle.std.proofs.Common.{◌≡◌, ℕ, ◌+◌, ◌/◌, ◌%◌, ◌<◌, ◌≤◌, List, [], ◌∷◌, ◌++◌, length, get_or, take, sym, refl, ap, ◌∙◌, append_assoc, arith}
 use Rattle.std.proofs.lemmas.List.{take_more, length-take-le}
 use Rattle.lines.specs.Spelling.{digit_of, spelled}
-use Rattle.lines.proofs.Pairs.{pair}
+
+abbrev pair : ℕ → List ℕ
+pair x = digit_of (x / 16) ∷ digit_of (x % 16) ∷ []
 
 spelled_push : (xs : List ℕ) (y : ℕ) → 0 < length xs → spelled (xs ++ y ∷ []) ≡ spelled xs ++ 32 ∷ pair y
 spelled_push [] y h = absurd (omega arith)

@@ -10,18 +10,20 @@ use std::marker::Model;
 const LINE_ROOM: usize = 3 * LONGEST_LINE;
 
 // A line as it comes in, byte by byte. Of a line that is too long it keeps the front, which is
-// too long as well.
+// too long as well. An array and a length, since an `ArrayVec` blanks what it held when it is cleared.
 #[derive(Drop)]
 pub struct LineBuffer {
-    front: ArrayVec<u8, LINE_ROOM>,
+    bytes: [u8; LINE_ROOM],
+    len: usize,
+    ghost within: { len ≤ 3072 },
 }
 
 impl Model for LineBuffer {
-    ghost use Rattle.std.specs.Prelude.{ℕ, List};
+    ghost use Rattle.std.specs.Prelude.{ℕ, List, take};
 
     ghost Value = { List ℕ };
 
-    ghost view = { λ b. b.front.items };
+    ghost view = { λ b. take b.len b.bytes };
 }
 
 impl LineBuffer {
@@ -29,35 +31,37 @@ impl LineBuffer {
         ensures { Holds result [] }
     {
         LineBuffer {
-            front: ArrayVec::new(),
+            bytes: [0; LINE_ROOM],
+            len: 0,
         }
     }
 
     pub fn clear(&mut self)
         ensures { Holds self.new [] }
     {
-        self.front.clear();
+        self.len = 0;
     }
 
     pub fn push(&mut self, byte: u8)
         ensures { (line : List ℕ) → Holds self.old line → Holds self.new (line ++ byte ∷ []) }
     {
-        if !self.front.is_full() {
-            self.front.push(byte);
+        if self.len < LINE_ROOM {
+            self.bytes[self.len] = byte;
+            self.len += 1;
         }
     }
 
     pub fn is_empty(&self) -> bool
         ensures { (line : List ℕ) → Holds self.now line → result ≡ ((length line) == 0) }
     {
-        self.front.is_empty()
+        self.len == 0
     }
 
     // The line's bytes, but of a line that is too long only the front.
     pub fn text(&self) -> &[u8]
         ensures { (line : List ℕ) → Holds self.now line → result.now ≡ take line_room line }
     {
-        &self.front
+        &self.bytes[0..self.len]
     }
 
     // What `octets_of_line` says of the whole line.
@@ -65,6 +69,6 @@ impl LineBuffer {
         ensures cases { (line : List ℕ) → Holds self.now line → MatchOption result (Legible line → ⊥) (λ octets. line ≡ spelled octets.items) }
         ensures bound { IfSome result (λ octets. array_vec_len octets ≤ longest_line) }
     {
-        octets_of_line(&self.front)
+        octets_of_line(self.text())
     }
 }

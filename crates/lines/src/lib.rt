@@ -1,6 +1,6 @@
 #![tactic(auto)]
 
-ghost use Rattle.std.specs.Prelude.{◌≡◌, ℕ, ◌/◌, ◌%◌, ◌<◌, ◌≤◌, IfSome, IfOk, string_bytes, MatchOption, ◌≢◌};
+ghost use Rattle.std.specs.Prelude.{◌≡◌, ℕ, ◌/◌, ◌%◌, ◌<◌, ◌≤◌, [], ◌∷◌, ◌++◌, IfSome, IfOk, string_bytes, MatchOption, OnOk, ◌≢◌};
 ghost use Rattle.arrayvec.specs.ArrayVec.{array_vec_len};
 ghost use Rattle.lines.specs.Spelling.{digit_of, spelled, longest_line, Legible};
 
@@ -31,7 +31,7 @@ fn pair_value(high: u8, low: u8) -> Option<u8>
     Some(digit_value(high)? * 16 + digit_value(low)?)
 }
 
-// The octets that a line spells.
+// The octets that a line spells. A bad byte is met where it stands: `split` would look on for a space first.
 pub fn octets_of_line(line: &[u8]) -> Option<ArrayVec<u8, LONGEST_LINE>>
     ensures cases { MatchOption result (Legible line.now → ⊥) (λ octets. line.now ≡ spelled octets.items) }
     ensures bound { IfSome result (λ octets. array_vec_len octets ≤ longest_line) }
@@ -40,13 +40,40 @@ pub fn octets_of_line(line: &[u8]) -> Option<ArrayVec<u8, LONGEST_LINE>>
     if line.is_empty() {
         return Some(octets);
     }
-    for pair in line.split(|byte| *byte == b' ') {
-        let [high, low] = pair else {
+    let mut rest = line;
+    for _ in 0..LONGEST_LINE {
+        let [high, low, after @ ..] = rest else {
             return None;
         };
-        octets.try_push(pair_value(*high, *low)?).ok()?;
+        octets.push(pair_value(*high, *low)?);
+        match after {
+            [] => return Some(octets),
+            [b' ', more @ ..] => rest = more,
+            _ => return None,
+        }
     }
-    Some(octets)
+    None
+}
+
+// The digit of a number below sixteen.
+fn digit_of(value: u8) -> char
+    requires { value < 16 }
+    ensures { result ≡ digit_of value }
+{
+    if value < 10 {
+        char::from(b'0' + value)
+    } else {
+        char::from(b'A' + (value - 10))
+    }
+}
+
+// Adds the two digits of an octet, which costs less than `write!` for each.
+fn push_pair(text: &mut String, octet: u8) -> Result<(), AllocError>
+    ensures { OnOk result (string_bytes text.new ≡ string_bytes text.old ++ (digit_of (octet / 16) ∷ digit_of (octet % 16) ∷ [])) }
+{
+    text.push(digit_of(octet / 16))?;
+    text.push(digit_of(octet % 16))?;
+    Ok(())
 }
 
 // Octets as capital hexadecimal pairs parted by one space.
@@ -58,7 +85,7 @@ pub fn spell(heap: Global, octets: &[u8]) -> Result<String, AllocError>
         if i > 0 {
             text.push(' ')?;
         }
-        write!(text, "{octet:02X}")?;
+        push_pair(&mut text, *octet)?;
     }
     Ok(text)
 }

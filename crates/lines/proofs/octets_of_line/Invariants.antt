@@ -1,9 +1,7 @@
-use Rattle.std.proofs.Common.{◌≡◌, ◌≤◌, map}
+use Rattle.std.proofs.Common.{◌≡◌}
 use Rattle.arrayvec.specs.ArrayVec.{array_vec_len}
-use Rattle.lines.proofs.Pairs.{pair}
+use Rattle.lines.proofs.Reading.{Reading}
 use Rattle.lines.proofs.octets_of_line.Given as goal
 
-abbrev pub invariant-loop-pair : goal.invariant-loop-pair
-invariant-loop-pair l =
-    (goal.iterator-loop-pair).can_next l.pair-iterator × (goal.iterator-loop-pair).is_finite l.pair-iterator
-    × (map (λ x. x.now) l.yielded ≡ map pair l.octets.items) × (array_vec_len l.octets ≤ 1024)
+abbrev pub invariant-loop : goal.invariant-loop
+invariant-loop l = Reading l.line l.octets.items l.rest × (array_vec_len l.octets ≡ l.counter)
