@@ -75,7 +75,7 @@ module _ {R : Type 0} (f : FamilyId) (l : Layout R) (sp : Spans) where
       ap (λ ws. writes_at k q ++ ws) (writes_more (k + 1) rs r ∙ ap (λ n. writes_from f l sp (k + 1) rs ++ writes_at n r) e)
       ∙ sym (append_assoc (writes_at k q) (writes_from f l sp (k + 1) rs) (writes_at (k + length (q ∷ rs)) r))
 
-  one_more : (k : ℕ) (s : List ℕ) (from : ℕ) (before mid after : List StagedWrite) (row : R) (pos end : ℕ) → Staged f l sp k s from before mid pos → l.reading.Means s pos row end
+  pub one_more : (k : ℕ) (s : List ℕ) (from : ℕ) (before mid after : List StagedWrite) (row : R) (pos end : ℕ) → Staged f l sp k s from before mid pos → l.reading.Means s pos row end
       → after ≡ mid ++ writes_at k row → Staged f l sp (k + 1) s from before after end
   one_more k s from before mid after row pos end h m e =
       let rd = l.reading in
@@ -88,7 +88,7 @@ module _ {R : Type 0} (f : FamilyId) (l : Layout R) (sp : Spans) where
             ∙ ap (λ ws. before ++ ws) (sym (writes_more 0 h.meant row));
       }
 
-  faulty : (k q : ℕ) (s : List ℕ) (from : ℕ) (before mid : List StagedWrite) (pos : ℕ) (w : Fault) → k < q → Staged f l sp k s from before mid pos → l.reading.Faults s pos w → (rows l.reading q).Faults s from w
+  pub faulty : (k q : ℕ) (s : List ℕ) (from : ℕ) (before mid : List StagedWrite) (pos : ℕ) (w : Fault) → k < q → Staged f l sp k s from before mid pos → l.reading.Faults s pos w → (rows l.reading q).Faults s from w
   faulty k q s from before mid pos w less h e =
       let all : replicate {A = ℕ} k 0 ++ replicate (suc (q - k - 1)) 0 ≡ replicate q 0 = replicate-append-replicate k (suc (q - k - 1)) 0 ∙ ap (λ n. replicate n 0) (omega arith) in
       subst (λ us. EachFaults (λ (u : ℕ). l.reading) us s from w) all (each_after (λ (u : ℕ). l.reading) (replicate k 0) (replicate (suc (q - k - 1)) 0) s from h.meant pos w h.means (inl e))

@@ -9,7 +9,7 @@ ghost use Rattle.memory.specs.Uses.{OnlyRead};
 ghost use Rattle.tables.specs.Families.{shape_of};
 ghost use Rattle.tables.specs.Places.{cell_of};
 ghost use Rattle.replies.specs.Replies.{Grew};
-ghost use Rattle.values.specs.Reading.{Read, whole};
+ghost use Rattle.values.specs.Reading.{Failed, Read, whole};
 ghost use Rattle.headers.specs.Headers.{InTable, rows_in, row_place, spans_of};
 ghost use Rattle.blocks.specs.Rows.{rows, rows_octets, rows_shown, StagedBy};
 ghost use Rattle.blocks.specs.Blocks.{BlockMeans, contents, block_octets};
@@ -45,13 +45,15 @@ pub fn read_rows<F: Family>(
 ) -> Result<(), Fault>
     requires table { InTable F.FAMILY spans }
     requires room { length (items list.old) + rows_in spans * length F.layout.carried ≤ room list.old }
-    ensures { MatchResult result (λ _. StagedBy F.FAMILY F.layout spans (rows_in spans) reader.old reader.new (items list.old) (items list.new)) (λ w. (rows F.layout.reading (rows_in spans)).Faults reader.old.octets.now reader.old.at w) }
+    ensures { MatchResult result (λ _. StagedBy F.FAMILY F.layout spans (rows_in spans) reader.old reader.new (items list.old) (items list.new)) (λ w. Failed (rows F.layout.reading (rows_in spans)) reader.old reader.new w) }
 {
+    let mut ahead = *reader;
     // Over row numbers, which say where a row stands.
     for row in 0..spans.rows() {
-        let read = F::parse(reader)?;
+        let read = F::parse(&mut ahead)?;
         F::stage(first_cell::<F>(spans, row), &read, list);
     }
+    *reader = ahead;
     Ok(())
 }
 

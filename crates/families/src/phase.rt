@@ -60,8 +60,10 @@ impl Family for Phases {
     ghost small = { layout_small Phase };
 
     fn parse(reader: &mut Reader) -> Result<PhaseRow, Fault> {
-        let numbers = reader.numbers(&columns_of(FamilyId::Phase, &NUMBERS))?;
-        let list = reader.list(FamilyId::Phase.column(LIST).unwrap())?;
+        let mut ahead = *reader;
+        let numbers = ahead.numbers(&columns_of(FamilyId::Phase, &NUMBERS))?;
+        let list = ahead.list(FamilyId::Phase.column(LIST).unwrap())?;
+        *reader = ahead;
         Ok(PhaseRow { numbers, list })
     }
 

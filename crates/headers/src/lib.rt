@@ -3,7 +3,7 @@
 
 ghost use Rattle.std.specs.Prelude.{◌≡◌, ◌+◌, ◌<◌, ◌≤◌, List, [], ◌∷◌, length, MatchResult};
 ghost use Rattle.replies.specs.Replies.{Grew};
-ghost use Rattle.values.specs.Reading.{Took, Read};
+ghost use Rattle.values.specs.Reading.{Took, Failed, Read};
 ghost use Rattle.headers.specs.Headers.{family_named, span_in, spans_in, rows_in, exactly, count, count_octets, spans_octets};
 
 use replies::Reply;
@@ -87,37 +87,42 @@ pub fn read_span(last: u8, reader: &mut Reader) -> Result<Span, Fault>
 pub fn read_spans(last_first: u8, last_second: u8, reader: &mut Reader) -> Result<Spans, Fault>
     ensures { Read (spans_in last_first last_second) reader.old reader.new result }
 {
-    let first = read_span(last_first, reader)?;
+    let mut ahead = *reader;
+    let first = read_span(last_first, &mut ahead)?;
     if last_second == 0 {
+        *reader = ahead;
         return Ok(Spans {
             first,
             second: NO_SECOND,
         });
     }
-    let second = read_span(last_second, reader)?;
+    let second = read_span(last_second, &mut ahead)?;
+    *reader = ahead;
     Ok(Spans { first, second })
 }
 
 // Just these octets, as a count's.
 fn read_exactly(octets: &[u8], reader: &mut Reader) -> Result<(), Fault>
-    ensures { MatchResult result (λ _. (marks : List (Unit {0})) × Took (exactly octets.now) reader.old reader.new marks) (λ w. (exactly octets.now).Faults reader.old.octets.now reader.old.at w) }
+    ensures { MatchResult result (λ _. (marks : List (Unit {0})) × Took (exactly octets.now) reader.old reader.new marks) (λ w. Failed (exactly octets.now) reader.old reader.new w) }
 {
+    let mut ahead = *reader;
     for octet in octets {
-        let [sent, ..] = reader.rest() else {
+        let [sent, ..] = ahead.rest() else {
             return Err(Fault::Missing);
         };
         if *sent != *octet {
-            return Err(Fault::CountDiffers(reader.at));
+            return Err(Fault::CountDiffers(ahead.at));
         }
-        reader.at += 1;
+        ahead.at += 1;
     }
+    *reader = ahead;
     Ok(())
 }
 
 // The count of so many rows.
 pub fn read_count(rows: usize, reader: &mut Reader) -> Result<(), Fault>
     requires { rows < 65536 }
-    ensures { MatchResult result (λ _. (marks : List (Unit {0})) × Took (count rows) reader.old reader.new marks) (λ w. (count rows).Faults reader.old.octets.now reader.old.at w) }
+    ensures { MatchResult result (λ _. (marks : List (Unit {0})) × Took (count rows) reader.old reader.new marks) (λ w. Failed (count rows) reader.old reader.new w) }
 {
     if let Ok(few) = u8::try_from(rows) {
         read_exactly(&[1, few], reader)

@@ -22,10 +22,15 @@ pub record Took {R : Type 0} (rd : Reading R) (before after : Reader) (r : R) : 
   pub same : after.octets ≡ before.octets
   pub means : rd.Means before.octets.now before.at r after.at
 
--- what a function that reads answers: the row, and the reader behind its octets, or the fault
+-- the octets from the reader's place on have this fault, and the reader stays as it was
+pub record Failed {R : Type 0} (rd : Reading R) (before after : Reader) (w : Fault) : Type 0 where
+  pub faults : rd.Faults before.octets.now before.at w
+  pub stays : after ≡ before
+
+-- what a function that reads answers: the row, and the reader behind its octets, or the fault, and the reader as it was
 abbrev pub Read : {R : Type 0} → Reading R → Reader → Reader → Result R Fault → Type 0
 Read rd before after (Ok r) = Took rd before after r
-Read rd before after (Err w) = rd.Faults before.octets.now before.at w
+Read rd before after (Err w) = Failed rd before after w
 
 -- one octet that stands for one of A; any other is at fault
 pub record ItemMeans {A : Type 0} (Is : A → ℕ → Type 0) (s : List ℕ) (i : ℕ) (a : A) (j : ℕ) : Type 0 where

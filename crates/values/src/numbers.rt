@@ -1,6 +1,6 @@
 ghost use Rattle.std.specs.Prelude.{◌≡◌, ◌+◌, ◌≤◌, length, MatchResult};
 ghost use Rattle.replies.specs.Replies.{Grew};
-ghost use Rattle.values.specs.Reading.{Took, Read, EachOf, each_octets};
+ghost use Rattle.values.specs.Reading.{Took, Failed, Read, EachOf, each_octets};
 ghost use Rattle.values.specs.Numbers.{number, numbers, Fits, octets, size, sizes};
 
 use super::Fault;
@@ -9,36 +9,37 @@ use replies::Reply;
 use tables::columns::Column;
 
 impl Reader<'_> {
-    // A number as its column has it.
+    // A number as its column has it. On a fault the reader stays where it was, here and in all that reads.
     pub fn number(&mut self, column: Column) -> Result<u16, Fault>
         ensures { Read (number column) self.old self.new result }
     {
-        let from = self.at;
-        let sent = if column.width == 2 {
+        let (sent, size) = if column.width == 2 {
             let [high, low, ..] = self.rest() else {
                 return Err(Fault::Missing);
             };
-            self.at += 2;
-            u16::from_be_bytes([*high, *low])
+            (u16::from_be_bytes([*high, *low]), 2)
         } else {
             let [octet, ..] = self.rest() else {
                 return Err(Fault::Missing);
             };
-            self.at += 1;
-            u16::from(*octet)
+            (u16::from(*octet), 1)
         };
-        column.stored(sent).ok_or(Fault::NotAllowed(from))
+        let value = column.stored(sent).ok_or(Fault::NotAllowed(self.at))?;
+        self.at += size;
+        Ok(value)
     }
 
     // A number for each column, one after the other, into fixed memory: how many is known at run time alone.
     pub fn numbers_into(&mut self, columns: &[Column], out: &mut [u16]) -> Result<(), Fault>
         requires { length out.old ≡ length columns.now }
-        ensures { MatchResult result (λ _. Took (numbers columns.now) self.old self.new out.new) (λ w. (numbers columns.now).Faults self.old.octets.now self.old.at w) }
+        ensures { MatchResult result (λ _. Took (numbers columns.now) self.old self.new out.new) (λ w. Failed (numbers columns.now) self.old self.new w) }
     {
+        let mut reader = *self;
         // by index: a zip over `iter_mut` was tried, and the proof did not close
         for (i, column) in columns.iter().enumerate() {
-            out[i] = self.number(*column)?;
+            out[i] = reader.number(*column)?;
         }
+        *self = reader;
         Ok(())
     }
 

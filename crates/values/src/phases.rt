@@ -31,9 +31,11 @@ impl Reader<'_> {
     pub fn list(&mut self, column: Column) -> Result<PhaseList, Fault>
         ensures { Read (phases column) self.old self.new result }
     {
-        let len = self.number(LENGTH)?;
+        let mut reader = *self;
+        let len = reader.number(LENGTH)?;
         let mut phases = [0u16; 16];
-        self.numbers_into(&[column; 16][..len as usize], &mut phases[..len as usize])?;
+        reader.numbers_into(&[column; 16][..len as usize], &mut phases[..len as usize])?;
+        *self = reader;
         Ok(PhaseList { len, phases })
     }
 }

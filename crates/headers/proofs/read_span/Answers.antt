@@ -14,7 +14,7 @@ returns-in_default-rest c =
     let n = left_length s l from c.rest.ensures in
     let m = part_length l 1 in
     let one : ItemMeans (UpTo c.args.last) s from (get_or s from 0) (from + 1) = record { there = omega arith; is = (refl, omega arith, omega arith); takes = refl } in
-    at_second (get_or s from 0) (from + 1) one (gone (omega arith) refl)
+    record { faults = at_second (get_or s from 0) (from + 1) one (gone (omega arith) refl); stays = refl }
 
 pub returns-then-quantity-lt1 : goal.returns-then-quantity-lt1
 returns-then-quantity-lt1 c =
@@ -26,5 +26,8 @@ returns-then-quantity-lt1 c =
     let m = part_length l 1 in
     let q = left_next s l from c.rest.ensures in
     let one : ItemMeans (UpTo c.args.last) s from (get_or s from 0) (from + 1) = record { there = omega arith; is = (refl, omega arith, omega arith); takes = refl } in
-    at_second (get_or s from 0) (from + 1) one
-    (bad (omega arith) (λ v h. elim c.then-quantity-lt1.branch [ then-quantity-lt1-via-then-quantity-lt1 x ↦ omega (arith, x.if-quantity-lt1.true, h.0, h.1, q) | then-quantity-lt1-via-else-quantity-lt1+then-last-start-2 x ↦ omega (arith, h.0, h.2, q, at, x.if-quantity-lt1.false, x.if-last-start-2.true) ]) refl)
+    record {
+      faults = at_second (get_or s from 0) (from + 1) one
+          (bad (omega arith) (λ v h. elim c.then-quantity-lt1.branch [ then-quantity-lt1-via-then-quantity-lt1 x ↦ omega (arith, x.if-quantity-lt1.true, h.0, h.1, q) | then-quantity-lt1-via-else-quantity-lt1+then-last-start-2 x ↦ omega (arith, h.0, h.2, q, at, x.if-quantity-lt1.false, x.if-last-start-2.true) ]) refl);
+      stays = refl;
+    }

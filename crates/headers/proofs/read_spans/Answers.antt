@@ -1,3 +1,4 @@
+use Rattle.std.proofs.Common.{refl}
 use Rattle.std.proofs.lemmas.Result.{err_from_is_err_and}
 use Rattle.values.proofs.Readers.{fault_on}
 use Rattle.headers.specs.Headers.{span_in}
@@ -8,7 +9,7 @@ pub returns-in_err-first : goal.returns-in_err-first
 returns-in_err-first c =
     let b = c.args.reader.now in
     let p = err_from_is_err_and c.from_residual.result c.from_residual.ensures.1 in
-    rw (p.1, p.2) (first_faulty c.args.last_first b.octets.now b.at c.args.last_second _ c.in_err-first.ensures)
+    rw (p.1, p.2) (record { faults = first_faulty c.args.last_first b.octets.now b.at c.args.last_second _ c.in_err-first.ensures.faults; stays = refl })
 
 pub returns-in_err-second : goal.returns-in_err-second
 returns-in_err-second c =
@@ -17,5 +18,8 @@ returns-in_err-second c =
     let t = c.in_ok-first.ensures in
     let p = err_from_is_err_and c.from_residual-in_err-second.result c.from_residual-in_err-second.ensures.1 in
     rw (p.1, p.2)
-    (second_faulty c.args.last_first b.octets.now b.at c.args.last_second c.in_ok-first.first a.at _ c.if-last_second-eq0.false t.means
-    (fault_on (span_in c.args.last_second) b a t.same _ c.in_err-second.ensures))
+    (record {
+      faults = second_faulty c.args.last_first b.octets.now b.at c.args.last_second c.in_ok-first.first a.at _ c.if-last_second-eq0.false t.means
+          (fault_on (span_in c.args.last_second) b a t.same _ c.in_err-second.ensures.faults);
+      stays = refl;
+    })

@@ -8,7 +8,7 @@ pub returns-in_err-read_count : goal.returns-in_err-read_count
 returns-in_err-read_count g c =
     let f = g.F.Family in
     let p = err_from_is_err_and c.from_residual-in_err-read_count.result c.from_residual-in_err-read_count.ensures.1 in
-    rw (p.1, p.2) (count-missed f.FAMILY f.layout c.in_ok-spans.ensures c.rows.ensures _ c.in_err-read_count.ensures)
+    rw (p.1, p.2) (count-missed f.FAMILY f.layout c.in_ok-spans.ensures c.rows.ensures _ c.in_err-read_count.ensures.faults)
 
 pub read_rows-requires : goal.read_rows-requires
 read_rows-requires g c =
@@ -21,7 +21,7 @@ pub returns-in_err-read_rows : goal.returns-in_err-read_rows
 returns-in_err-read_rows g c =
     let f = g.F.Family in
     let p = err_from_is_err_and c.from_residual-in_err-read_rows.result c.from_residual-in_err-read_rows.ensures.1 in
-    rw (p.1, p.2) (rows-missed f.FAMILY f.layout c.in_ok-spans.ensures c.rows.ensures c.in_ok-read_count.ensures.1 _ c.in_err-read_rows.ensures)
+    rw (p.1, p.2) (rows-missed f.FAMILY f.layout c.in_ok-spans.ensures c.rows.ensures c.in_ok-read_count.ensures.1 _ c.in_err-read_rows.ensures.faults)
 
 pub returns-then-reader-block : goal.returns-then-reader-block
 returns-then-reader-block g c =

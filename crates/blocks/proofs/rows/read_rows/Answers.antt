@@ -1,4 +1,4 @@
-use Rattle.std.proofs.Common.{◌≡◌, ◌+◌, ◌<◌, ◌++◌, length, ap, ◌∙◌, subst, arith, length-append}
+use Rattle.std.proofs.Common.{◌≡◌, ◌+◌, ◌<◌, ◌++◌, length, refl, ap, ◌∙◌, subst, arith, length-append}
 use Rattle.std.proofs.lemmas.Result.{err_from_is_err_and}
 use Rattle.lists.specs.Items.{items, room}
 use Rattle.values.proofs.Parts.{each_of_length}
@@ -13,7 +13,7 @@ returns-in_err-read g c =
     let f = g.F.Family in
     let less : c.loop-row.row < rows_in c.args.spans = omega arith in
     let p = err_from_is_err_and c.from_residual.result c.from_residual.ensures.1 in
-    rw (p.1, p.2) (one_wrong f.FAMILY f.layout c.args.spans c.loop-row.row (rows_in c.args.spans) less c.loop-row.invariant.2 _ c.in_err-read.ensures)
+    rw (p.1, p.2) (record { faults = one_wrong f.FAMILY f.layout c.args.spans c.loop-row.row (rows_in c.args.spans) less c.loop-row.invariant.2 _ c.in_err-read.ensures.faults; stays = refl })
 
 pub stage-requires-clause-room : goal.stage-requires-clause-room
 stage-requires-clause-room g c =
@@ -32,7 +32,7 @@ loop-row-preserved g c =
     let k = c.loop-row.row in
     let base = c.first_cell.result in
     let met = g.met.F.Family.lawful in
-    let a = c.loop-row.reader in
+    let a = c.loop-row.ahead in
     let ok = met.written.ok a.octets.now a.at row c.parse.new.reader.at t.means in
     let many : length (f.layout.values row) ≡ length f.layout.carried = each_of_length (Holds f.FAMILY) f.layout.carried (f.layout.values row) (met.held row ok) in
     let w = placed base f.layout.carried (f.layout.values row) in

@@ -8,4 +8,4 @@ abbrev pub invariant-loop-row : goal.invariant-loop-row
 invariant-loop-row g l =
     let f = g.F.Family in
     (room l.list ≡ room l.initial.list) × (length (items l.list) ≡ length (items l.initial.list) + l.row * length f.layout.carried)
-    × StagedBy f.FAMILY f.layout l.spans l.row l.initial.reader l.reader (items l.initial.list) (items l.list)
+    × StagedBy f.FAMILY f.layout l.spans l.row l.initial.ahead l.ahead (items l.initial.list) (items l.list)

@@ -1,4 +1,4 @@
-use Rattle.std.proofs.Common.{subst}
+use Rattle.std.proofs.Common.{refl, subst}
 use Rattle.std.proofs.lemmas.Result.{err_from_is_err_and}
 use Rattle.tables.specs.declared.family.FamilyId.TheVariants.{Phase}
 use Rattle.tables.specs.Families.{column_of}
@@ -12,7 +12,7 @@ pub returns-in_err-numbers : goal.returns-in_err-numbers
 returns-in_err-numbers c =
     let b = c.args.reader.now in
     let p = err_from_is_err_and c.from_residual.result c.from_residual.ensures.1 in
-    rw (p.1, p.2) (at_first (subst (λ cs. (numbers cs).Faults b.octets.now b.at c.in_err-numbers.field-0.0) c.columns_of.ensures c.in_err-numbers.ensures))
+    rw (p.1, p.2) (record { faults = at_first (subst (λ cs. (numbers cs).Faults b.octets.now b.at c.in_err-numbers.field-0.0) c.columns_of.ensures c.in_err-numbers.ensures.faults); stays = refl })
 
 pub returns-in_err-list : goal.returns-in_err-list
 returns-in_err-list c =
@@ -23,5 +23,8 @@ returns-in_err-list c =
     let w = c.in_err-list.field-0.0 in
     let p = err_from_is_err_and c.from_residual-in_err-list.result c.from_residual-in_err-list.ensures.1 in
     rw (p.1, p.2)
-    (at_second c.in_ok-numbers.numbers m.at t.means
-    (fault_on (phases (column_of Phase 22)) b m t.same w (subst (λ k. (phases k).Faults m.octets.now m.at w) column c.in_err-list.ensures)))
+    (record {
+      faults = at_second c.in_ok-numbers.numbers m.at t.means
+          (fault_on (phases (column_of Phase 22)) b m t.same w (subst (λ k. (phases k).Faults m.octets.now m.at w) column c.in_err-list.ensures.faults));
+      stays = refl;
+    })

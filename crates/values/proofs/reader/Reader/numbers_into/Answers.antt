@@ -1,4 +1,4 @@
-use Rattle.std.proofs.Common.{◌+◌, ◌<◌, length, take, sym, subst, arith}
+use Rattle.std.proofs.Common.{◌+◌, ◌<◌, length, take, sym, refl, subst, arith}
 use Rattle.std.proofs.lemmas.List.{take_more_set}
 use Rattle.std.proofs.lemmas.Result.{err_from_is_err_and}
 use Rattle.tables.specs.Columns.{none}
@@ -10,7 +10,7 @@ use Rattle.values.proofs.reader.Reader.numbers_into.Goals as goal
 pub returns-in_err-out : goal.returns-in_err-out
 returns-in_err-out c =
     let p = err_from_is_err_and c.from_residual.result c.from_residual.ensures.1 in
-    rw (p.1, p.2) (each_wrong number c.args.columns.now none c.loop-i.i c.loop-i.invariant _ c.loop-i-test.true c.in_err-out.ensures)
+    rw (p.1, p.2) (record { faults = each_wrong number c.args.columns.now none c.loop-i.i c.loop-i.invariant _ c.loop-i-test.true c.in_err-out.ensures.faults; stays = refl })
 
 pub loop-i-preserved : goal.loop-i-preserved
 loop-i-preserved c =

@@ -5,4 +5,4 @@ use Rattle.values.proofs.reader.Reader.numbers_into.Given as goal
 
 -- the numbers so far are read
 abbrev pub invariant-loop-i : goal.invariant-loop-i
-invariant-loop-i l = Took (numbers (take l.i l.columns)) l.initial.self l.self (take l.i l.out)
+invariant-loop-i l = Took (numbers (take l.i l.columns)) l.initial.reader l.reader (take l.i l.out)
