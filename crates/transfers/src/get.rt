@@ -48,7 +48,7 @@ fn put_values<R: ParameterMemory>(
     Ok(())
 }
 
-// Answers a get from the running table. The body is what follows the operation's octet.
+// Answers a get from the running table; a refused one takes the reply back. The body is what follows the operation's octet.
 pub fn get<R: ParameterMemory>(
     running: &mut R,
     body: &[u8],
@@ -60,12 +60,16 @@ pub fn get<R: ParameterMemory>(
     ensures read { OnlyRead R.ParameterMemory running.old running.new }
     ensures outcome { MatchResult result
         (λ _. (os : List ℕ) × Got (R.cells running.old) body.now (accepted os) × Grew reply.old reply.new os)
-        (λ e. Got (R.cells running.old) body.now (refused e)) }
+        (λ e. Got (R.cells running.old) body.now (refused e) × (reply.new.position.now.length ≡ 0)) }
     ensures past { SamePastRoom reply.old reply.new }
 {
     let items = items_of(body, 4)?;
     let count = items.len() / 4;
     reply.put(0);
     reply.put(count as u8);
-    put_values(running, addresses_in(items, count), reply)
+    if let Err(refusal) = put_values(running, addresses_in(items, count), reply) {
+        reply.position.length = 0;
+        return Err(refusal);
+    }
+    Ok(())
 }
