@@ -49,4 +49,5 @@ try() { # NAME EXPECTED
 try sound proved
 try resume_of_editing unknown-method
 try set_after_abandon borrow-e0382
+try forgotten_after_refused_opening unsatisfied-bound
 exit $bad

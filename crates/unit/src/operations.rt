@@ -125,7 +125,9 @@ impl<R: ParameterMemory, D: ParameterMemory> UnitCall<'_, '_, R, D> {
         let Some(quiet) = Quiet::from_mode(self.mode) else {
             return Err(Refusal::Mode);
         };
-        let editing = quiet.open(self.running, self.draft)?;
+        let editing = quiet
+            .open(self.running, self.draft)
+            .map_err(|unopened| unopened.into_refusal())?;
         self.mode = editing.into_mode();
         reply.put(0);
         Ok(())

@@ -27,12 +27,12 @@ pub struct Unopened {
     pub refusal: Refusal,
 }
 
-// The refusal alone: the state is let go.
-impl From<Unopened> for Refusal {
-    ghost from_gives = { λ u e. e ≡ u.refusal };
-
-    fn from(unopened: Unopened) -> Refusal {
-        let Unopened { state, refusal } = unopened;
+impl Unopened {
+    // The refusal alone: the state is let go. Within the unit alone, since elsewhere a state can't be forgotten.
+    pub(crate) fn into_refusal(self) -> Refusal
+        ensures { result ≡ self.refusal }
+    {
+        let Unopened { state, refusal } = self;
         let _ = state.into_mode();
         refusal
     }
@@ -52,7 +52,8 @@ impl<const MODE: u8> State<MODE> {
 
     // The mode's number.
     pub fn into_mode(self) -> u8
-        ensures { result ≡ MODE }
+        ensures mode { result ≡ MODE }
+        ensures own { result ≡ self.entry.mode }
     {
         let State { mode } = self;
         mode
