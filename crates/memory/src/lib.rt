@@ -136,9 +136,9 @@ impl<'a> ParameterMemory for WordMemory<'a> {
         if is_wide(at) {
             self.words[at] = value;
         } else {
+            // By a sum: the low octet alone is then stored, where two octets put together are a word each time.
             let [high, _] = word.to_be_bytes();
-            let [_, low] = value.to_be_bytes();
-            self.words[at] = u16::from_be_bytes([high, low]);
+            self.words[at] = u16::from(high) * 256 + value;
         }
         Ok(())
     }

@@ -6,8 +6,8 @@ pub fn factory_value(cell: usize) -> u16
     ensures { result ≡ factory_cell cell }
 {
     match cell {
-        ..608 if cell % 38 == 18 => 1,
-        1408..2176 if (cell - 1408) % 3 == 1 => 2,
+        ..608 => if cell % 38 == 18 { 1 } else { 0 },
+        1408..2176 => if (cell - 1408) % 3 == 1 { 2 } else { 0 },
         _ => 0,
     }
 }
