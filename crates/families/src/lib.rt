@@ -18,7 +18,8 @@ pub mod sequence;
 pub mod split;
 pub mod vehicle_detector;
 
-// The columns of a family that have these numbers, counted from 1.
+// The columns of a family that have these numbers, counted from 1. Inlined: where the family is known, so are they.
+#[inline(always)]
 fn columns_of<const N: usize>(family: FamilyId, numbers: &[u8; N]) -> [Column; N]
     requires { T (has_slots family (number_slots numbers.now)) }
     ensures { result ≡ those_columns family numbers.now }
